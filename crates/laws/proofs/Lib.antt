@@ -1,0 +1,3 @@
+-- Lemmas that more than one crate cites.
+pub mod Puts
+pub mod Parts

@@ -1,0 +1,60 @@
+-- What `put` leaves: lengths, parts, runs of puts.
+-- Assumes nothing.
+use mathlib.Core.Path.{_≡_, refl, sym, ap, ap₂, _∙_}
+use mathlib.Core.List.{List, [], _∷_, _++_, append-assoc, append-nil}
+use Prim.Native.Nat.{ℕ, zero, suc, _+_, _-_, _≤_, _<_, min}
+use native.Mathlib.Numerals.{add-one}
+use native.Mathlib.Nat.{add-assoc, add-zero, zero-add}
+use native.Mathlib.Omega.{arith}
+use lib.ListN.{length, take, drop, getD, set, length-append, length-take, length-drop, take-append-drop}
+use lib.Seq.{paste-zero, paste-suc, length-paste, take-paste, drop-paste, take-add, drop-drop, take-take, take-append-le, take-append-add, take-length, length-take-le, getD-drop, take-at, drop-at}
+use Rattle.laws.specs.Put.{put}
+
+-- nothing pasted
+pub put-none : (d : List ℕ) (at : ℕ) (s : List ℕ) → d ≡ put d at s 0
+unfolding put
+put-none d at s = paste-zero d at s
+
+pub put-zero : (d : List ℕ) (at : ℕ) (s : List ℕ) (n : ℕ) → n ≡ 0 → d ≡ put d at s n
+put-zero d at s n e = rw e (put-none d at s)
+
+-- a paste whose count, or whose source, is another form of the same
+pub put-count : (x d : List ℕ) (at : ℕ) (s : List ℕ) (m n : ℕ) → x ≡ put d at s m → m ≡ n → x ≡ put d at s n
+put-count x d at s m n e q = rw (← q) e
+
+-- the definition as a law, for proofs that keep it shut
+pub opened : (d : List ℕ) (at : ℕ) (s : List ℕ) (n : ℕ) → put d at s n ≡ take at d ++ take n s ++ drop (at + n) d
+unfolding put
+opened d at s n = refl
+
+-- a turn of a loop that copies by bytes
+pub put-more : (d : List ℕ) (at : ℕ) (s : List ℕ) (j : ℕ) → at + j < length d → j < length s → set (put d at s j) (at + j) (getD s j 0) ≡ put d at s (j + 1)
+unfolding put
+put-more d at s j hd hs = rw add-one (paste-suc d at s j 0 hd hs)
+
+pub length-put : (d : List ℕ) (at : ℕ) (s : List ℕ) (n : ℕ) → at + n ≤ length d → n ≤ length s → length (put d at s n) ≡ length d
+unfolding put
+length-put d at s n hd hs = length-paste d at s n hd hs
+
+-- up to the pasted bytes' end, and from there on
+pub take-put : (d : List ℕ) (at : ℕ) (s : List ℕ) (n : ℕ) → at ≤ length d → n ≤ length s → take (at + n) (put d at s n) ≡ take at d ++ take n s
+unfolding put
+take-put d at s n hd hs = take-paste d at s n hd hs
+
+pub drop-put : (d : List ℕ) (at : ℕ) (s : List ℕ) (n : ℕ) → at ≤ length d → n ≤ length s → drop (at + n) (put d at s n) ≡ drop (at + n) d
+unfolding put
+drop-put d at s n hd hs = drop-paste d at s n hd hs
+
+-- a second paste where the first ended, of what comes next in s, makes one paste
+pub put-put : (d : List ℕ) (at : ℕ) (s : List ℕ) (m n : ℕ) → at + (m + n) ≤ length d → m + n ≤ length s → put (put d at s m) (at + m) (drop m s) n ≡ put d at s (m + n)
+put-put d at s m n hd hs =
+    let front = take-put d at s m (omega arith) (omega arith) in
+    let back : drop (at + m + n) (put d at s m) ≡ drop (at + (m + n)) d =
+    sym (drop-drop n (at + m) (put d at s m))
+    ∙ ap (λ (l : List ℕ). drop n l) (drop-put d at s m (omega arith) (omega arith))
+    ∙ drop-drop n (at + m) d
+    ∙ ap (λ (k : ℕ). drop k d) (add-assoc at m n) in
+    opened (put d at s m) (at + m) (drop m s) n
+    ∙ ap₂ (λ (f b : List ℕ). f ++ take n (drop m s) ++ b) front back
+    ∙ ap (λ (l : List ℕ). l ++ drop (at + (m + n)) d) (append-assoc (take at d) (take m s) (take n (drop m s)) ∙ ap (λ (l : List ℕ). take at d ++ l) (sym (take-add m n s)))
+    ∙ sym (opened d at s (m + n))
