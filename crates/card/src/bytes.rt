@@ -46,3 +46,27 @@ pub fn copy(dst: &mut [u8], at: usize, src: &[u8], n: usize)
     let count = least(n, most);
     copy_exact(dst, at, src, count);
 }
+
+// The n bytes from place `from` on, moved to the front.
+fn shift_exact(bytes: &mut [u8], from: usize, n: usize)
+    requires { ⌜ from + n ≤ length (now bytes) ⌝ }
+    ensures { λ _. ⌜ now (bytes .exit) ≡ put (now (bytes .entry)) 0 (drop from (now (bytes .entry))) n ⌝ }
+{
+    let mut i = 0;
+    while i < n {
+        bytes[i] = bytes[from + i];
+        i += 1;
+    }
+}
+
+// The bytes from place `from` up to `to` moved to the front, for every input: nothing past the
+// end is moved. Every other byte stays.
+pub fn shift(bytes: &mut [u8], from: usize, to: usize)
+    ensures { λ _. ⌜ now (bytes .exit) ≡ put (now (bytes .entry)) 0 (drop from (now (bytes .entry))) (min to (length (now (bytes .entry))) - from) ⌝ }
+{
+    let end = least(to, bytes.len());
+    if end < from {
+        return;
+    }
+    shift_exact(bytes, from, end - from);
+}

@@ -58,3 +58,23 @@ put-put d at s m n hd hs =
     ∙ ap₂ (λ (f b : List ℕ). f ++ take n (drop m s) ++ b) front back
     ∙ ap (λ (l : List ℕ). l ++ drop (at + (m + n)) d) (append-assoc (take at d) (take m s) (take n (drop m s)) ∙ ap (λ (l : List ℕ). take at d ++ l) (sym (take-add m n s)))
     ∙ sym (opened d at s (m + n))
+
+-- a byte past the pasted ones
+pub getD-put-past : (d : List ℕ) (at : ℕ) (s : List ℕ) (n j : ℕ) → at + n ≤ length d → n ≤ length s → at + n ≤ j → getD (put d at s n) j 0 ≡ getD d j 0
+getD-put-past d at s n j hd hs h =
+    let e : at + n + (j - (at + n)) ≡ j = omega arith in
+    ap (λ (k : ℕ). getD (put d at s n) k 0) (sym e)
+    ∙ sym (getD-drop (at + n) (put d at s n) (j - (at + n)) 0)
+    ∙ ap (λ (l : List ℕ). getD l (j - (at + n)) 0) (drop-put d at s n (omega arith) hs)
+    ∙ getD-drop (at + n) d (j - (at + n)) 0
+    ∙ ap (λ (k : ℕ). getD d k 0) e
+
+-- a turn of a loop that moves d's own bytes to its front, one at a time
+pub shift-more : (d x : List ℕ) (from i : ℕ) → x ≡ put d 0 (drop from d) i → from + i < length d → set x i (getD x (from + i) 0) ≡ put d 0 (drop from d) (i + 1)
+shift-more d x from i e h =
+    let long : i < length (drop from d) = simp length-drop (omega arith) in
+    let read : getD x (from + i) 0 ≡ getD (drop from d) i 0 = rw e (getD-put-past d 0 (drop from d) i (from + i) (omega arith) (omega arith) (omega arith) ∙ sym (getD-drop from d i 0)) in
+    ap (λ (v : ℕ). set x i v) read
+    ∙ ap (λ (l : List ℕ). set l i (getD (drop from d) i 0)) e
+    ∙ ap (λ (k : ℕ). set (put d 0 (drop from d) i) k (getD (drop from d) i 0)) (sym (zero-add i))
+    ∙ put-more d 0 (drop from d) i (omega arith) long
