@@ -1,4 +1,6 @@
--- `Sends` has the laws of `sendFrom`, `Turn` the send loop's invariant.
+-- `Sends` has the laws of a run of device writes, `Turn` the invariant of its loop, `Flushes` what every flush of the
+-- buffer keeps, `Calls` what each way through the code tells.
 pub mod Sends
 pub mod Turn
+pub mod Flushes
 pub mod Calls

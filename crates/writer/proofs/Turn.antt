@@ -103,11 +103,11 @@ module _ (source script : List ℕ) (used : ℕ) (medium₀ : List ℕ) (out wri
             let one = takes-accept (drop at script) _ n (reply-is ∙ pn) in
             record {
               same =
-                inv .same
-                ∙ send-accept (drop at script) (length source - sent) (length medium₀ - out - sent) sent at made n (reply-is ∙ pn) p (omega arith)
-                ∙ ap (λ (l : List ℕ). sendFrom l (length source - sent - n) (length medium₀ - out - sent - n) (sent + n) (at + takes (drop at script)) (made + 1)) rest-is
-                ∙ ap (λ (k : ℕ). sendFrom (drop (e .used) script) (length source - sent - n) (length medium₀ - out - sent - n) (sent + n) k (made + 1)) (sym used-is)
-                ∙ ap₂ (λ (a b : ℕ). sendFrom (drop (e .used) script) a b (sent + n) (e .used) (made + 1)) (less-more (length source) sent n) (less-more (length medium₀ - out) sent n);
+                  inv .same
+                  ∙ send-accept (drop at script) (length source - sent) (length medium₀ - out - sent) sent at made n (reply-is ∙ pn) p (omega arith)
+                  ∙ ap (λ (l : List ℕ). sendFrom l (length source - sent - n) (length medium₀ - out - sent - n) (sent + n) (at + takes (drop at script)) (made + 1)) rest-is
+                  ∙ ap (λ (k : ℕ). sendFrom (drop (e .used) script) (length source - sent - n) (length medium₀ - out - sent - n) (sent + n) k (made + 1)) (sym used-is)
+                  ∙ ap₂ (λ (a b : ℕ). sendFrom (drop (e .used) script) a b (sent + n) (e .used) (made + 1)) (less-more (length source) sent n) (less-more (length medium₀ - out) sent n);
               bytes = x-is;
               long = ap length x-is ∙ length-put medium₀ out source (sent + n) (within .1) (within .0);
               most = within .0;
@@ -124,12 +124,11 @@ module _ (source script : List ℕ) (used : ℕ) (medium₀ : List ℕ) (out wri
 
         pub ends-zero : n ≡ 0 → (sentBy Zero sent (e .used) (made + 1) ≡ sendFrom (drop used script) (length source) (length medium₀ - out) 0 used writes) × (x ≡ put medium₀ out source sent)
         ends-zero z =
-            let none : e .reply ≡ Accept 0 = pn ∙ ap Accept z in
-            (
+            let none : e .reply ≡ Accept 0 = pn ∙ ap Accept z in (
               sym
-                (inv .same
-                ∙ send-zero (drop at script) (length source - sent) (length medium₀ - out - sent) sent at made (reply-is ∙ none) (omega arith)
-                ∙ ap (λ (k : ℕ). sentBy Zero sent k (made + 1)) (sym used-is)),
+                  (inv .same
+                  ∙ send-zero (drop at script) (length source - sent) (length medium₀ - out - sent) sent at made (reply-is ∙ none) (omega arith)
+                  ∙ ap (λ (k : ℕ). sentBy Zero sent k (made + 1)) (sym used-is)),
               x-is ∙ ap (λ (k : ℕ). put medium₀ out source k) (omega arith),
             )
 
@@ -143,10 +142,10 @@ module _ (source script : List ℕ) (used : ℕ) (medium₀ : List ℕ) (out wri
           let x-same = unmoved (ap moves q) in
           record {
             same =
-              inv .same
-              ∙ send-interrupted (drop at script) (length source - sent) (length medium₀ - out - sent) sent at made (reply-is ∙ q) (omega arith)
-              ∙ ap (λ (l : List ℕ). sendFrom l (length source - sent) (length medium₀ - out - sent) sent (at + takes (drop at script)) (made + 1)) rest-is
-              ∙ ap (λ (k : ℕ). sendFrom (drop (e .used) script) (length source - sent) (length medium₀ - out - sent) sent k (made + 1)) (sym used-is);
+                inv .same
+                ∙ send-interrupted (drop at script) (length source - sent) (length medium₀ - out - sent) sent at made (reply-is ∙ q) (omega arith)
+                ∙ ap (λ (l : List ℕ). sendFrom l (length source - sent) (length medium₀ - out - sent) sent (at + takes (drop at script)) (made + 1)) rest-is
+                ∙ ap (λ (k : ℕ). sendFrom (drop (e .used) script) (length source - sent) (length medium₀ - out - sent) sent k (made + 1)) (sym used-is);
             bytes = x-same ∙ inv .bytes;
             long = ap length x-same ∙ inv .long;
             most = inv .most;
@@ -162,14 +161,13 @@ module _ (source script : List ℕ) (used : ℕ) (medium₀ : List ℕ) (out wri
           omega (arith, used-is, end-is, one)
 
       pub ends-failed : (code : ℕ) → e .reply ≡ Error code → (sentBy (Failed code) sent (e .used) (made + 1) ≡ sendFrom (drop used script) (length source) (length medium₀ - out) 0 used writes) × (x ≡ put medium₀ out source sent)
-      ends-failed code q =
-          (
-            sym
-              (inv .same
-              ∙ send-failed (drop at script) (length source - sent) (length medium₀ - out - sent) sent at made code (reply-is ∙ q) (omega arith)
-              ∙ ap (λ (k : ℕ). sentBy (Failed code) sent k (made + 1)) (sym used-is)),
-            unmoved (ap moves q) ∙ inv .bytes,
-          )
+      ends-failed code q = (
+        sym
+            (inv .same
+            ∙ send-failed (drop at script) (length source - sent) (length medium₀ - out - sent) sent at made code (reply-is ∙ q) (omega arith)
+            ∙ ap (λ (k : ℕ). sentBy (Failed code) sent k (made + 1)) (sym used-is)),
+        unmoved (ap moves q) ∙ inv .bytes,
+      )
 
       pub kept-long : length x ≡ length medium → length x ≡ length medium₀
       kept-long k = k ∙ inv .long

@@ -53,6 +53,6 @@ sendFrom [] left room sent used writes = pick (eqb left 0) (sentBy Done sent use
 sendFrom (n ∷ rest) left room sent used writes =
     pick (eqb left 0) (sentBy Done sent used writes)
     (onReply (atMost (min left room) (replyOf n))
-      (λ t. pick (eqb t 0) (sentBy Zero sent (used + 1) (writes + 1)) (sendFrom rest (left - t) (room - t) (sent + t) (used + 1) (writes + 1)))
-      (sendFrom rest left room sent (used + 1) (writes + 1))
-      (λ code. sentBy (Failed code) sent (used + 1) (writes + 1)))
+    (λ t. pick (eqb t 0) (sentBy Zero sent (used + 1) (writes + 1)) (sendFrom rest (left - t) (room - t) (sent + t) (used + 1) (writes + 1)))
+    (sendFrom rest left room sent (used + 1) (writes + 1))
+    (λ code. sentBy (Failed code) sent (used + 1) (writes + 1)))

@@ -104,15 +104,15 @@ refusing script w own call =
     let number : ℕ = refusalOf (capacity w) (length script) (length (w .medium)) 0 (w .held) (w .out) (w .used) own in
     pick (eqb number 0)
     (call
-      (record {
-        storage = w .storage;
-        medium = w .medium;
-        held = w .held;
-        out = w .out;
-        used = w .used;
-        writes = 0;
-        flushes = 0;
-      }))
+    (record {
+      storage = w .storage;
+      medium = w .medium;
+      held = w .held;
+      out = w .out;
+      used = w .used;
+      writes = 0;
+      flushes = 0;
+    }))
     (record { answer = refused number; world = w })
 
 -- ---- how the code's values say it

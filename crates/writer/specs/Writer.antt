@@ -46,16 +46,18 @@ deviceWriteAll script w s = takenBy w s (sendFrom (replies script w) (length s) 
 abbrev pub stored : Said → World → List ℕ → Called
 stored answer w s = record { answer = answer; world = kept w s (length s) }
 
--- length >= capacity goes to the device, a smaller slice is stored
+-- "Then length >= capacity makes one device write whose answer is handed up, interrupted included; a smaller slice is stored"
 unfoldable pub placed : Said → (World → Called) → World → List ℕ → Called
 placed answer device w s = pick (leb (capacity w) (length s)) (device w) (stored answer w s)
 
--- "length < spare is stored. Else, if length > spare, `flush_buf` first, and its failure is the answer with nothing of the
--- slice taken. Then length >= capacity" goes to the device; "a smaller slice is stored"
+-- "Else, if length > spare, `flush_buf` first, and its failure is the answer with nothing of the slice taken", then placed
+unfoldable pub cold : List ℕ → Said → (World → Called) → World → List ℕ → Called
+cold script answer device w s =
+    andThen (pick (ltb (spare w) (length s)) (flushBuf script w) (nothing w)) (λ v. placed answer device v s)
+
+-- "length < spare is stored"
 unfoldable pub written : List ℕ → Said → (World → Called) → World → List ℕ → Called
-written script answer device w s =
-    pick (ltb (length s) (spare w)) (stored answer w s)
-    (andThen (pick (ltb (spare w) (length s)) (flushBuf script w) (nothing w)) (λ v. placed answer device v s))
+written script answer device w s = pick (ltb (length s) (spare w)) (stored answer w s) (cold script answer device w s)
 
 unfoldable pub write : List ℕ → World → List ℕ → Called
 write script w s = written script (ok (length s)) (λ v. deviceWrite script v s) w s
@@ -72,15 +74,15 @@ deviceFlush script w =
     record {
       answer = flushReplySaid (e .reply);
       world =
-        record {
-          storage = w .storage;
-          medium = w .medium;
-          held = w .held;
-          out = w .out;
-          used = e .used;
-          writes = w .writes;
-          flushes = w .flushes + 1;
-        };
+          record {
+            storage = w .storage;
+            medium = w .medium;
+            held = w .held;
+            out = w .out;
+            used = e .used;
+            writes = w .writes;
+            flushes = w .flushes + 1;
+          };
     }
 
 -- "`flush_buf`, then the device flush, whose answer is handed up"

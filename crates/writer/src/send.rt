@@ -1,9 +1,8 @@
 // Runs of device writes.
-use card::device;
-use card::Reply;
 use crate::Outcome;
 use crate::Sent;
-
+use card::Reply;
+use card::device;
 ghost use mathlib.Core.Path.{_≡_};
 ghost use Prim.Native.Nat.{_+_, _-_, _≤_};
 ghost use lib.ListN.{length, drop};
