@@ -3,4 +3,9 @@
 pub mod Sends
 pub mod Turn
 pub mod Flushes
+pub mod Cases
+pub mod Goes
 pub mod Calls
+pub mod Moves
+pub mod Newlines
+pub mod Lines

@@ -2,6 +2,8 @@
 // linewritershim.rs. The state goes in and comes back by value; storage, script, medium and slice
 // are lent.
 pub mod bufwriter;
+pub mod linewriter;
+pub mod newline;
 mod send;
 
 use card::Answer;
