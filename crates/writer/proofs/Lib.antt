@@ -9,3 +9,4 @@ pub mod Calls
 pub mod Moves
 pub mod Newlines
 pub mod Lines
+pub mod Ledgers
