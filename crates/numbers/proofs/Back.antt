@@ -11,16 +11,12 @@ use lib.Dec.{leb, ltb, eqb}
 use lib.ListN.{length, take, drop, getD, length-drop}
 use lib.Seq.{take-append-seam, drop-append-seam, getD-drop}
 use borrow.Author.Tests.{lt-ltb, le-ltb, eq-eqb, ne-eqb, ltb-true, ltb-false, eqb-true, eqb-false}
+use Rattle.laws.proofs.Picks.{by-test}
 use Rattle.numbers.specs.declared.Number.{Number}
 use Rattle.numbers.specs.declared.Number.the-variants.{Value, Fault}
 use Rattle.numbers.specs.Number.{ended, groupsFrom, numberOf, number}
 use Rattle.numbers.specs.Written.{groupBytes, numberBytes}
 use Rattle.numbers.proofs.Groups.{more, unpast}
-
--- by a test's two answers
-pub by-test {ℓ} : {A : Type ℓ} (b : Bool) → (b ≡ true → A) → (b ≡ false → A) → A
-by-test true t f = t refl
-by-test false t f = f refl
 
 -- Whatever holds in the four cases of a byte holds of the number from there on
 pub by-cases : (P : Number → Type 0) (top start end left weight value at byte : ℕ) (rest : List ℕ)

@@ -7,10 +7,11 @@ use native.Mathlib.Omega.{arith}
 use lib.Dec.{leb}
 use lib.ListN.{length}
 use borrow.Author.Tests.{le-leb, lt-leb, leb-true}
+use Rattle.laws.proofs.Picks.{by-test}
 use Rattle.numbers.specs.declared.Number.{Number}
 use Rattle.numbers.specs.declared.Number.the-variants.{Value, Fault}
-use Rattle.numbers.specs.Number.{number, within, numberMost}
-use Rattle.numbers.proofs.Back.{by-test, no-value, value-places}
+use Rattle.numbers.specs.Number.{number, within, numberMost, after}
+use Rattle.numbers.proofs.Back.{no-value, value-places}
 
 by-number : (n : Number) (at most value next : ℕ) → within at most n ≡ Value value next → (n ≡ Value value next) × (value ≤ most)
 unfolding within
@@ -40,3 +41,8 @@ most-value bytes at most value next e = by-number (number bytes at) at most valu
 -- its places
 pub most-places : (bytes : List ℕ) (at most value next : ℕ) → numberMost bytes at most ≡ Value value next → (at < next) × (next ≤ length bytes)
 most-places bytes at most value next e = value-places bytes at value next (most-value bytes at most value next e .0)
+
+-- what holds at a fault, and at any value within the limit with the place after it, holds of what comes after the number
+pub after-holds {ℓ} : {A : Type ℓ} (P : A → Type 0) (n : Number) (fault : ℕ → A) (good : ℕ → ℕ → A) → ((p : ℕ) → n ≡ Fault p → P (fault p)) → ((value next : ℕ) → n ≡ Value value next → P (good value next)) → P (after n fault good)
+after-holds P (Value value next) fault good f g = g value next refl
+after-holds P (Fault place) fault good f g = f place refl

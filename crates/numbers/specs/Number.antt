@@ -40,3 +40,8 @@ within at most (Fault place) = Fault place
 
 unfoldable pub numberMost : List ℕ → ℕ → ℕ → Number
 numberMost bytes at most = within at most (number bytes at)
+
+-- What comes after a number, by its value and the place after it. A fault stays what it is
+abbrev pub after {ℓ} : {A : Type ℓ} → Number → (ℕ → A) → (ℕ → ℕ → A) → A
+after (Value value next) fault good = good value next
+after (Fault place) fault good = fault place
