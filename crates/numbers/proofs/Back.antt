@@ -1,20 +1,20 @@
 -- Reading and writing a number undo each other: what is written is read, and what is read was written so and not otherwise.
 -- Assumes nothing.
 use mathlib.Core.Path.{_≡_, refl, sym, ap, ap₂, _∙_}
-use mathlib.Core.Bool.{Bool, true, false, _&&_}
+use mathlib.Core.Bool.{true, false, _&&_}
 use mathlib.Core.List.{List, [], _∷_, _++_}
 use Prim.Native.Nat.{ℕ, zero, suc, _+_, _-_, _*_, _/_, _%_, _^_, _≤_, _<_}
-use native.Mathlib.Nat.{add-mul, add-assoc, one-mul, mul-one, mul-assoc, mul-comm, pow-suc, pow-zero, div-add-mod', div-lt-iff-lt-mul, zero-lt-suc, mul-le-mul, one-le-pow}
-use native.Mathlib.Decide.{decLe, decLt}
+use native.Mathlib.Nat.{add-mul, add-assoc, mul-one, mul-assoc, mul-comm, pow-suc, zero-lt-suc, mul-le-mul, one-le-pow}
 use native.Mathlib.Omega.{arith}
-use lib.Dec.{leb, ltb, eqb}
-use lib.ListN.{length, take, drop, getD, length-drop}
-use lib.Seq.{take-append-seam, drop-append-seam, getD-drop}
-use borrow.Author.Tests.{lt-ltb, le-ltb, eq-eqb, ne-eqb, ltb-true, ltb-false, eqb-true, eqb-false}
+use lib.Dec.{ltb, eqb}
+use lib.ListN.{length, take, drop, getD, length-drop, take-append-drop}
+use lib.Seq.{take-append-seam, getD-drop}
+use borrow.Author.Tests.{lt-ltb, le-ltb, ne-eqb, ltb-true, ltb-false, eqb-true, eqb-false}
 use Rattle.laws.proofs.Picks.{by-test}
 use Rattle.numbers.specs.declared.Number.{Number}
 use Rattle.numbers.specs.declared.Number.the-variants.{Value, Fault}
 use Rattle.numbers.specs.Number.{ended, groupsFrom, numberOf, number}
+use Rattle.numbers.specs.Width.{Width}
 use Rattle.numbers.specs.Written.{groupBytes, numberBytes}
 use Rattle.numbers.proofs.Groups.{more, unpast}
 
@@ -207,34 +207,54 @@ only-these top start end left weight value at (byte ∷ rest) v next f h t s e =
     later top start left weight value at byte rest v next b small two s m)
     e
 
--- What is read at a place of bytes: the value is below 2^32, and exactly the plain writer's bytes of it stand there
-pub record Stands (bytes : List ℕ) (at v next : ℕ) : Type 0 where
-  pub below : v < 2 ^ 32
-  pub ends : next ≡ at + length (numberBytes v)
-  pub part : take (length (numberBytes v)) (drop at bytes) ≡ numberBytes v
+-- What is read at a place: a value below the width's end, and exactly the plain writer's bytes of it stand there
+pub record Stands (groups top : ℕ) (bytes : List ℕ) (at v next : ℕ) : Type 0 where
+  pub below : v < (top + 1) * 128 ^ (groups - 1)
+  pub ends : next ≡ at + length (groupBytes groups v)
+  pub part : take (length (groupBytes groups v)) (drop at bytes) ≡ groupBytes groups v
 
--- reading what the plain writer writes gives the number back, with the place after it
-pub back : (pre post : List ℕ) (v : ℕ) → v < 2 ^ 32 → number (pre ++ (numberBytes v ++ post)) (length pre) ≡ Value v (length pre + length (numberBytes v))
-unfolding number numberOf numberBytes
-back pre post v h =
-    rw (drop-append-seam pre (groupBytes 5 v ++ post))
-    (reads 15 (length pre) (length (pre ++ (groupBytes 5 v ++ post))) 5 1 0 (length pre) v post (omega arith) (omega arith) h (λ a. absurd (omega arith))
-    ∙ ap (λ (x : ℕ). Value x (length pre + length (groupBytes 5 v))) (omega (arith, mul-one v)))
+-- For every width: reading what the plain writer writes gives the number back, with the place after it ..
+pub back-of : (groups top : ℕ) (bytes : List ℕ) (at v : ℕ) → Width groups top → v < (top + 1) * 128 ^ (groups - 1) → take (length (groupBytes groups v)) (drop at bytes) ≡ groupBytes groups v → numberOf groups top bytes at ≡ Value v (at + length (groupBytes groups v))
+unfolding numberOf
+back-of groups top bytes at v w h e =
+    let k = length (groupBytes groups v) in
+    let split : drop at bytes ≡ groupBytes groups v ++ drop k (drop at bytes) = sym (take-append-drop k (drop at bytes)) ∙ ap (λ (x : List ℕ). x ++ drop k (drop at bytes)) e in
+    ap (λ (x : List ℕ). groupsFrom top at (length bytes) groups 1 0 at x) split
+    ∙ reads top at (length bytes) groups 1 0 at v (drop k (drop at bytes)) (w .some) (w .seven) h (λ a. absurd (omega arith))
+    ∙ ap (λ (x : ℕ). Value x (at + k)) (omega (arith, mul-one v))
 
-stands : (bytes : List ℕ) (at v next : ℕ) → Meant 15 at 5 1 0 at (drop at bytes) v next → Stands bytes at v next
-unfolding numberBytes
-stands bytes at v next m =
+stands : (groups top : ℕ) (bytes : List ℕ) (at v next : ℕ) → Meant top at groups 1 0 at (drop at bytes) v next → Stands groups top bytes at v next
+stands groups top bytes at v next m =
     let same : v ≡ m .meant = m .makes ∙ omega (arith, mul-one (m .meant)) in
     record {
       below = rw same (m .below);
       ends = rw same (m .ends);
-      part = rw same (ap (λ (x : List ℕ). take (length (groupBytes 5 (m .meant))) x) (m .bytes) ∙ take-append-seam (groupBytes 5 (m .meant)) (m .tail));
+      part = rw same (ap (λ (x : List ℕ). take (length (groupBytes groups (m .meant))) x) (m .bytes) ∙ take-append-seam (groupBytes groups (m .meant)) (m .tail));
     }
 
--- and no other bytes do
-pub only : (bytes : List ℕ) (at v next : ℕ) → Bytes bytes → number bytes at ≡ Value v next → Stands bytes at v next
-unfolding number numberOf
-only bytes at v next f e = stands bytes at v next (only-these 15 at (length bytes) 5 1 0 at (drop at bytes) v next (λ i. rw (getD-drop at bytes i 0) (f (at + i))) (omega arith) (omega arith) (omega arith) e)
+-- .. and no other bytes do
+pub only-of : (groups top : ℕ) (bytes : List ℕ) (at v next : ℕ) → Width groups top → Bytes bytes → numberOf groups top bytes at ≡ Value v next → Stands groups top bytes at v next
+unfolding numberOf
+only-of groups top bytes at v next w f e = stands groups top bytes at v next (only-these top at (length bytes) groups 1 0 at (drop at bytes) v next (λ i. rw (getD-drop at bytes i 0) (f (at + i))) (w .some) (w .seven) (omega arith) e)
+
+-- the width of document 01's numbers
+pub width : Width 5 15
+width = record { some = omega arith; more = omega arith; seven = omega arith; fits = omega arith }
+
+-- The same of numbers below 2^32
+pub back : (bytes : List ℕ) (at v : ℕ) → v < 2 ^ 32 → take (length (numberBytes v)) (drop at bytes) ≡ numberBytes v → number bytes at ≡ Value v (at + length (numberBytes v))
+unfolding number numberBytes
+back bytes at v h e = back-of 5 15 bytes at v width h e
+
+pub only : (bytes : List ℕ) (at v next : ℕ) → Bytes bytes → number bytes at ≡ Value v next → (v < 2 ^ 32) × ((next ≡ at + length (numberBytes v)) × (take (length (numberBytes v)) (drop at bytes) ≡ numberBytes v))
+unfolding number numberBytes
+only bytes at v next f e =
+    let s = only-of 5 15 bytes at v next width f e in
+    (s .below, (s .ends, s .part))
+
+-- the value that is read is below 2^32
+pub value-below : (bytes : List ℕ) (at v next : ℕ) → Bytes bytes → number bytes at ≡ Value v next → v < 2 ^ 32
+value-below bytes at v next f e = only bytes at v next f e .0
 
 -- the places of a value: after its start, and not past the end
 pub value-places : (bytes : List ℕ) (at v next : ℕ) → number bytes at ≡ Value v next → (at < next) × (next ≤ length bytes)

@@ -2,18 +2,18 @@
 -- Assumes nothing.
 use mathlib.Core.Path.{_≡_, refl, sym, ap, _∙_}
 use mathlib.Core.Bool.{Bool, true, false, _&&_}
-use mathlib.Core.List.{List, [], _∷_}
-use Prim.Native.Nat.{ℕ, zero, suc, _+_, _-_, _*_, _^_, _≤_, _<_}
-use native.Mathlib.Nat.{add-mul, one-mul, mul-one, mul-assoc, mul-comm, pow-suc, one-le-pow, mul-le-mul-left, mul-le-mul-right, zero-lt-suc, le-trans, le-of-eq}
+use mathlib.Core.List.{List}
+use Prim.Native.Nat.{ℕ, suc, _+_, _-_, _*_, _^_, _≤_, _<_}
+use native.Mathlib.Nat.{add-mul, one-mul, mul-one, mul-assoc, mul-comm, pow-suc, one-le-pow, mul-le-mul-left, mul-le-mul-right, zero-lt-suc}
 use native.Mathlib.Numerals.{add-one}
 use native.Mathlib.Decide.{decLe}
 use native.Mathlib.Omega.{arith}
-use lib.Dec.{leb, ltb, eqb}
+use lib.Dec.{ltb, eqb}
 use lib.ListN.{length, drop, getD, drop-of-length-le}
 use lib.Seq.{drop-cons}
 use borrow.Author.Tests.{lt-ltb, le-ltb, eq-eqb}
 use Rattle.numbers.specs.declared.Number.{Number}
-use Rattle.numbers.specs.declared.Number.the-variants.{Value, Fault}
+use Rattle.numbers.specs.declared.Number.the-variants.{Fault}
 use Rattle.numbers.specs.Number.{ended, groupsFrom, numberOf}
 use Rattle.numbers.specs.Width.{Width}
 

@@ -3,9 +3,11 @@
 use mathlib.Core.Path.{_≡_, refl}
 use mathlib.Core.List.{List, [], _∷_}
 use Prim.Native.Nat.{ℕ}
+use native.Mathlib.Omega.{arith}
 use Rattle.numbers.specs.declared.Number.{Number}
 use Rattle.numbers.specs.declared.Number.the-variants.{Value, Fault}
 use Rattle.numbers.specs.Number.{ended, groupsFrom, numberOf, number}
+use Rattle.numbers.specs.Width.{Width}
 use Rattle.numbers.specs.Written.{groupBytes, numberBytes}
 
 pub record Row : Type 0 where
@@ -38,3 +40,7 @@ rows-hold = (refl, (refl, (refl, (refl, (refl, (refl, (refl, (refl, (refl, tt)))
 pub written : numberBytes 65541 ≡ 0x85 ∷ 0x80 ∷ 0x04 ∷ []
 unfolding numberBytes groupBytes
 written = refl
+
+-- ten groups, of which the last is at most 1, are a width too: numbers below 2^64
+pub ten : Width 10 1
+ten = record { some = omega arith; more = omega arith; seven = omega arith; fits = omega arith }

@@ -2,9 +2,9 @@
 // Every public function is total: it asks nothing of the bytes nor of the place.
 ghost use mathlib.Core.Path.{_≡_};
 ghost use mathlib.Core.Bool.{_&&_};
-ghost use Prim.Native.Nat.{_+_, _<_};
+ghost use Prim.Native.Nat.{_+_, _<_, _^_};
 ghost use lib.Dec.{eqb, ltb};
-ghost use Rattle.numbers.specs.Number.{ended, numberOf, number, within, numberMost};
+ghost use Rattle.numbers.specs.Number.{ended, numberOf, number, numberMost};
 ghost use Rattle.numbers.specs.Width.{Width};
 
 // What reading a number finds.
@@ -29,7 +29,7 @@ fn past(left: usize, top: usize, byte: usize) -> bool
 
 // The last byte of a number that starts at `start`, standing at `at`: `value` is meant.
 fn last(start: usize, at: usize, byte: usize, value: usize) -> Number
-    requires { ⌜ at + 1 < 18446744073709551616 ⌝ }
+    requires { ⌜ at + 1 < 2 ^ 64 ⌝ }
     ensures { λ r. ⌜ r ≡ ended start at byte value ⌝ }
 {
     if byte != 0 {

@@ -1,18 +1,12 @@
 -- No second answer meets a promise of this crate.
 -- Assumes nothing.
 use mathlib.Core.Path.{_≡_, sym, _∙_}
-use mathlib.Core.Bool.{Bool}
 use mathlib.Core.List.{List}
 use Prim.Native.Nat.{ℕ}
-use Rattle.trace.specs.declared.ClaimRead.{ClaimRead}
 use Rattle.trace.specs.declared.CallRead.{CallRead}
 use Rattle.trace.specs.declared.Checked.{Checked}
-use Rattle.trace.specs.Claims.{claimAt}
 use Rattle.trace.specs.Calls.{callAt}
 use Rattle.trace.specs.Trace.{traceOf, checked}
-
-pub read-claim-once : (t : List ℕ) (flush : Bool) (at : ℕ) (r s : ClaimRead) → r ≡ claimAt t flush at → s ≡ claimAt t flush at → r ≡ s
-read-claim-once t flush at r s p q = p ∙ sym q
 
 pub read-call-once : (t : List ℕ) (total at : ℕ) (r s : CallRead) → r ≡ callAt t total at → s ≡ callAt t total at → r ≡ s
 read-call-once t total at r s p q = p ∙ sym q

@@ -20,13 +20,12 @@ use Rattle.trace.specs.declared.TracedCall.{TracedCall}
 use Rattle.trace.specs.declared.CallRead.{CallRead}
 use Rattle.trace.specs.declared.CallRead.the-variants.{Call, Fault as NoCall}
 use Rattle.trace.specs.declared.Header.{Header}
-use Rattle.trace.specs.declared.Checked.{Checked}
 use Rattle.trace.specs.declared.Checked.the-variants.{Whole, Fault}
 use Rattle.trace.specs.Claims.{claimed}
 use Rattle.trace.specs.Calls.{Told, wrote, flushed, told, written, callAt}
 use Rattle.trace.specs.Trace.{callsMost, Parsed, fault, trace, before, afterCall, cardAt, callsFrom, countAt, traceOf, checked}
-use Rattle.trace.proofs.Within.{Fair, CallWithin, GoodCall, call-good, within}
-use Rattle.trace.proofs.Walk.{one-call, no-call, no-more}
+use Rattle.trace.proofs.Within.{Fair, CallWithin, within}
+use Rattle.trace.proofs.Walk.{one-call, no-call}
 
 -- a check's answer, back to what the definition says
 pub record Held (p : Parsed) (header : Header) : Type 0 where
@@ -69,6 +68,13 @@ FairTold (flushed said) = FairSaid true said
 abbrev pub AllFair : List Told → Type 0
 AllFair [] = Unit
 AllFair (call ∷ calls) = FairTold call × AllFair calls
+
+-- a call as the trace tells it, by its kind
+pub told-write : (t : List ℕ) (call : TracedCall) → call .flush ≡ false → told t call ≡ wrote (take (call .length) (drop (call .start) t)) (claimed (call .claim))
+told-write t call e = ap (λ (b : Bool). pick b (flushed (claimed (call .claim))) (wrote (take (call .length) (drop (call .start) t)) (claimed (call .claim)))) e
+
+pub told-flush : (t : List ℕ) (call : TracedCall) → call .flush ≡ true → told t call ≡ flushed (claimed (call .claim))
+told-flush t call e = ap (λ (b : Bool). pick b (flushed (claimed (call .claim))) (wrote (take (call .length) (drop (call .start) t)) (claimed (call .claim)))) e
 
 -- of one call that is read
 pub told-fair : (t : List ℕ) (call : TracedCall) → Fair (call .flush) (call .claim) → FairTold (told t call)

@@ -1,26 +1,23 @@
 -- The definitions of a claim, of a call and of the card by the ways that they can go, as the code meets them.
 -- Assumes nothing.
-use mathlib.Core.Path.{_≡_, refl, sym, ap, _∙_}
+use mathlib.Core.Path.{_≡_, refl}
 use mathlib.Core.Bool.{Bool, true, false}
-use mathlib.Core.List.{List, []}
+use mathlib.Core.List.{List}
 use Prim.Native.Nat.{ℕ, _+_, _-_, _≤_, _<_}
-use lib.Dec.{eqb, ltb}
-use lib.ListN.{length, take, drop}
+use lib.ListN.{length}
 use borrow.Author.Tests.{eq-eqb, ne-eqb, lt-ltb, le-ltb}
 use Rattle.card.specs.Limits.{bytesMost, capacityMost}
 use Rattle.numbers.specs.declared.Number.the-variants.{Value, Fault as NoNumber}
 use Rattle.numbers.specs.Number.{number, numberMost}
 use Rattle.trace.specs.declared.Claim.{Claim}
-use Rattle.trace.specs.declared.Claim.the-variants.{Ok, Done, Interrupted, Zero, Error}
+use Rattle.trace.specs.declared.Claim.the-variants.{Ok, Error}
 use Rattle.trace.specs.declared.ClaimRead.{ClaimRead}
 use Rattle.trace.specs.declared.ClaimRead.the-variants.{Claimed, Fault as NoClaim}
-use Rattle.trace.specs.declared.TracedCall.{TracedCall}
 use Rattle.trace.specs.declared.CallRead.{CallRead}
 use Rattle.trace.specs.declared.CallRead.the-variants.{Call, Fault as NoCall}
-use Rattle.trace.specs.declared.Header.{Header}
 use Rattle.trace.specs.declared.Checked.{Checked}
 use Rattle.trace.specs.declared.Checked.the-variants.{Whole, Fault}
-use Rattle.trace.specs.Claims.{okAt, errorAt, claimOf, claimAt}
+use Rattle.trace.specs.Claims.{codeMost, okAt, errorAt, claimOf, claimAt}
 use Rattle.trace.specs.Calls.{traced, writeAt, callAt}
 use Rattle.trace.specs.Trace.{callsMost, cardAt, callsFrom, countAt, traceOf, checked}
 
@@ -35,15 +32,15 @@ module _ (t : List ℕ) (at : ℕ) where
   ok-fault p e = rw e refl
 
   -- error
-  pub error-zero : (code next : ℕ) → numberMost t at 4294901759 ≡ Value code next → code ≡ 0 → NoClaim at ≡ errorAt t at
+  pub error-zero : (code next : ℕ) → numberMost t at codeMost ≡ Value code next → code ≡ 0 → NoClaim at ≡ errorAt t at
   unfolding errorAt
   error-zero code next e z = rw e (rw (eq-eqb _ _ z) refl)
 
-  pub error-value : (code next : ℕ) → numberMost t at 4294901759 ≡ Value code next → (code ≡ 0 → ⊥) → Claimed (Error code) next ≡ errorAt t at
+  pub error-value : (code next : ℕ) → numberMost t at codeMost ≡ Value code next → (code ≡ 0 → ⊥) → Claimed (Error code) next ≡ errorAt t at
   unfolding errorAt
   error-value code next e z = rw e (rw (ne-eqb _ _ z) refl)
 
-  pub error-fault : (p : ℕ) → numberMost t at 4294901759 ≡ NoNumber p → NoClaim p ≡ errorAt t at
+  pub error-fault : (p : ℕ) → numberMost t at codeMost ≡ NoNumber p → NoClaim p ≡ errorAt t at
   unfolding errorAt
   error-fault p e = rw e refl
 

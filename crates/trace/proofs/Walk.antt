@@ -1,21 +1,18 @@
 -- A walk over the calls of a trace, one by one: the loop that checks it, and what a later walk over a whole trace goes by.
 -- Assumes nothing.
 use mathlib.Core.Path.{_≡_, refl, sym, ap, _∙_}
-use mathlib.Core.Bool.{Bool, true, false}
-use mathlib.Core.List.{List, [], _∷_}
+use mathlib.Core.List.{List}
 use Prim.Native.Nat.{ℕ, zero, suc, _+_, _-_, _≤_, _<_}
 use native.Mathlib.Omega.{arith}
-use lib.ListN.{length, take, drop}
-use Rattle.card.specs.Limits.{bytesMost, capacityMost}
+use lib.ListN.{length}
+use Rattle.card.specs.Limits.{bytesMost}
 use Rattle.trace.specs.declared.TracedCall.{TracedCall}
-use Rattle.trace.specs.declared.CallRead.{CallRead}
 use Rattle.trace.specs.declared.CallRead.the-variants.{Call, Fault as NoCall}
-use Rattle.trace.specs.declared.Header.{Header}
 use Rattle.trace.specs.declared.Checked.{Checked}
-use Rattle.trace.specs.declared.Checked.the-variants.{Whole, Fault}
+use Rattle.trace.specs.declared.Checked.the-variants.{Fault}
 use Rattle.trace.specs.Calls.{Told, told, callAt}
-use Rattle.trace.specs.Trace.{Parsed, fault, trace, before, afterCall, cardAt, callsFrom, checked}
-use Rattle.trace.proofs.Within.{CallWithin, within}
+use Rattle.trace.specs.Trace.{Parsed, fault, trace, before, cardAt, callsFrom, checked}
+use Rattle.trace.proofs.Within.{within}
 
 -- a call in front changes nothing of a check
 checked-before : (call : Told) (p : Parsed) → checked (before call p) ≡ checked p

@@ -1,9 +1,9 @@
 -- What a claim and a call that are read keep: their places lie in the trace, a length lies in what is left of the total, and
 -- a claim is one that a call of its kind can make.
 -- Assumes nothing.
-use mathlib.Core.Path.{_≡_, refl, sym, ap, _∙_}
+use mathlib.Core.Path.{_≡_}
 use mathlib.Core.Bool.{Bool, true, false}
-use mathlib.Core.List.{List, []}
+use mathlib.Core.List.{List}
 use Prim.Native.Nat.{ℕ, _+_, _-_, _≤_, _<_}
 use native.Mathlib.Omega.{arith}
 use lib.Dec.{eqb, ltb}
@@ -22,7 +22,7 @@ use Rattle.trace.specs.declared.ClaimRead.the-variants.{Claimed, Fault a
 use Rattle.trace.specs.declared.TracedCall.{TracedCall}
 use Rattle.trace.specs.declared.CallRead.{CallRead}
 use Rattle.trace.specs.declared.CallRead.the-variants.{Call, Fault as NoCall}
-use Rattle.trace.specs.Claims.{okAt, errorAt, claimOf, claimAt}
+use Rattle.trace.specs.Claims.{codeMost, okAt, errorAt, claimOf, claimAt}
 use Rattle.trace.specs.Calls.{afterClaim, traced, writeAt, callAt}
 
 -- The claims that a call can make, a flush where the first is true
@@ -31,7 +31,7 @@ pub data Fair : Bool → Claim → Type 0 where
   done : Fair true Done
   interrupted : (flush : Bool) → Fair flush Interrupted
   zero : (flush : Bool) → Fair flush Zero
-  error : (flush : Bool) (code : ℕ) → 1 ≤ code → code ≤ 4294901759 → Fair flush (Error code)
+  error : (flush : Bool) (code : ℕ) → 1 ≤ code → code ≤ codeMost → Fair flush (Error code)
 
 pub record ClaimWithin (t : List ℕ) (flush : Bool) (at : ℕ) (claim : Claim) (next : ℕ) : Type 0 where
   pub later : at ≤ next
@@ -52,10 +52,10 @@ ok-good t at =
 error-good : (t : List ℕ) (flush : Bool) (at : ℕ) → GoodClaim t flush at (errorAt t at)
 unfolding errorAt
 error-good t flush at =
-    after-holds (GoodClaim t flush at) (numberMost t at 4294901759) NoClaim _ (λ p e. tt)
+    after-holds (GoodClaim t flush at) (numberMost t at codeMost) NoClaim _ (λ p e. tt)
     (λ code next e.
     pick-holds (GoodClaim t flush at) (eqb code 0) (NoClaim at) (Claimed (Error code) next) (λ z. tt)
-    (λ z. let w = most-places t at 4294901759 code next e in record { later = omega arith; ends = w .1; fair = error flush code (omega (arith, eqb-false code 0 z)) (most-value t at 4294901759 code next e .1) }))
+    (λ z. let w = most-places t at codeMost code next e in record { later = omega arith; ends = w .1; fair = error flush code (omega (arith, eqb-false code 0 z)) (most-value t at codeMost code next e .1) }))
 
 of-good : (t : List ℕ) (flush : Bool) (n at : ℕ) → at ≤ length t → GoodClaim t flush at (claimOf t flush n at)
 unfolding claimOf

@@ -1,7 +1,7 @@
 -- The answer that a traced call claims.
 -- Assumes nothing.
 use Prim.Native.Nat.{ℕ}
-use mathlib.Core.Bool.{Bool, true, false}
+use mathlib.Core.Bool.{Bool}
 use mathlib.Core.List.{List}
 use lib.Dec.{eqb}
 use Rattle.laws.specs.Pick.{pick}
@@ -24,9 +24,13 @@ claimed (Error code) = error code
 unfoldable pub okAt : List ℕ → ℕ → ClaimRead
 okAt trace at = after (number trace at) Fault (λ n next. Claimed (Ok n) next)
 
+-- the largest code: the largest number below 2^32, less 65,536
+abbrev pub codeMost : ℕ
+codeMost = 4294901759
+
 -- 3 and a code 1 to 4,294,901,759
 unfoldable pub errorAt : List ℕ → ℕ → ClaimRead
-errorAt trace at = after (numberMost trace at 4294901759) Fault (λ code next. pick (eqb code 0) (Fault at) (Claimed (Error code) next))
+errorAt trace at = after (numberMost trace at codeMost) Fault (λ code next. pick (eqb code 0) (Fault at) (Claimed (Error code) next))
 
 -- 0 ok (and n for a write), 1 interrupted, 2 zero, 3 and a code: what follows the answer's number at a place
 unfoldable pub claimOf : List ℕ → Bool → ℕ → ℕ → ClaimRead

@@ -1,7 +1,6 @@
 -- Trace: capacity (to 1,024), call count (to 256), calls, card length (to 16,384) and bytes, then nothing.
 -- Assumes nothing.
 use Prim.Native.Nat.{ℕ, zero, suc, _+_, _-_}
-use mathlib.Core.Bool.{Bool, true, false}
 use mathlib.Core.List.{List, [], _∷_}
 use lib.Dec.{ltb}
 use lib.ListN.{length, take, drop}

@@ -55,7 +55,7 @@ fn read_of(trace: &[u8], flush: bool, number: usize, at: usize) -> ClaimRead
 }
 
 // The claimed answer at a place.
-pub fn read_claim(trace: &[u8], flush: bool, at: usize) -> ClaimRead
+pub(crate) fn read_claim(trace: &[u8], flush: bool, at: usize) -> ClaimRead
     ensures { λ r. ⌜ r ≡ claimAt (now (trace .entry)) flush at ⌝ }
 {
     let found = numbers::read_most(trace, at, 3);

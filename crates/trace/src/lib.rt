@@ -2,7 +2,7 @@
 // first fault, and without memory for its calls: `whole::check` reads it all, `calls::read_call`
 // reads one call again.
 pub mod calls;
-pub mod claims;
+mod claims;
 pub mod whole;
 
 // The answer that a traced call claims. Ok has its count for a write; a flush is Done.

@@ -1,5 +1,4 @@
 -- `trace::claims::read_of` meets its contract. Assumes nothing.
-use mathlib.Core.Path.{_∙_}
 use borrow.Author.Tests.{eq-eqb, ne-eqb}
 use Rattle.trace.specs.Claims.{claimOf}
 use borrow.Author.Needs.{needs}
