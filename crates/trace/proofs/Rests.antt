@@ -85,13 +85,13 @@ told-fair t call f = by (call .flush) f
     by false f = record { claim = call .claim; is = refl; fair = f }
 
 -- its bytes are as many as its length says, and a flush has none
-pub told-written : (t : List ℕ) (call : TracedCall) (calls : List Told) → call .start + call .length ≤ length t → written (told t call ∷ calls) ≤ call .length + written calls
+pub told-written : (t : List ℕ) (call : TracedCall) (calls : List Told) → call .start + call .length ≤ length t → (call .flush ≡ true → call .length ≡ 0) → written (told t call ∷ calls) ≡ call .length + written calls
 unfolding written
-told-written t call calls h = by (call .flush)
+told-written t call calls h z = by (call .flush) z
   where
-    by : (b : Bool) → written (pick b (flushed (claimed (call .claim))) (wrote (take (call .length) (drop (call .start) t)) (claimed (call .claim))) ∷ calls) ≤ call .length + written calls
-    by true = omega arith
-    by false = simp (length-take, length-drop) (omega arith)
+    by : (b : Bool) → (b ≡ true → call .length ≡ 0) → written (pick b (flushed (claimed (call .claim))) (wrote (take (call .length) (drop (call .start) t)) (claimed (call .claim))) ∷ calls) ≡ call .length + written calls
+    by true z = omega (arith, z refl)
+    by false z = simp (length-take, length-drop) (omega arith)
 
 -- The rest of a trace that has so many calls left
 pub record Rest (t : List ℕ) (capacity count first left total : ℕ) (header : Header) (calls : List Told) (card : List ℕ) : Type 0 where
@@ -146,7 +146,7 @@ before-good t capacity count first left total at call (trace header calls card) 
   card-most = g .card-most;
   calls-are = ap suc (g .calls-are);
   fair = (told-fair t call (w .fair), g .fair);
-  total-most = λ h. omega (arith, told-written t call calls (w .part), g .total-most (omega (arith, w .room)));
+  total-most = λ h. omega (arith, told-written t call calls (w .part) (w .bare), g .total-most (omega (arith, w .room)));
 }
 
 pub calls-good : (t : List ℕ) (capacity count first left total at : ℕ) → GoodRest t capacity count first left total (callsFrom t capacity count first left total at)

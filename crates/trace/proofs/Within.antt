@@ -1,7 +1,7 @@
 -- What a claim and a call that are read keep: their places lie in the trace, a length lies in what is left of the total, and
 -- a claim is one that a call of its kind can make.
 -- Assumes nothing.
-use mathlib.Core.Path.{_≡_}
+use mathlib.Core.Path.{_≡_, refl}
 use mathlib.Core.Bool.{Bool, true, false}
 use mathlib.Core.List.{List}
 use Prim.Native.Nat.{ℕ, _+_, _-_, _≤_, _<_}
@@ -89,18 +89,24 @@ pub record CallWithin (t : List ℕ) (total at : ℕ) (call : TracedCall) : Type
   pub ends : call .next ≤ length t
   pub part : call .start + call .length ≤ length t
   pub room : call .length ≤ bytesMost - total
+  pub bare : call .flush ≡ true → call .length ≡ 0
   pub fair : Fair (call .flush) (call .claim)
 
 abbrev pub GoodCall : List ℕ → ℕ → ℕ → CallRead → Type 0
 GoodCall t total at (Call call) = CallWithin t total at call
 GoodCall t total at (NoCall place) = Unit
 
-traced-good : (t : List ℕ) (flush : Bool) (total start n from at : ℕ) → start + n ≤ length t → n ≤ bytesMost - total → from ≤ at → GoodCall t total from (traced t flush start n at)
+true-false : _≡_ {A = Bool} false true → ⊥
+true-false e =
+    let z : _≡_ {A = ℕ} 0 1 = cc in
+    omega arith
+
+traced-good : (t : List ℕ) (flush : Bool) (total start n from at : ℕ) → start + n ≤ length t → n ≤ bytesMost - total → (flush ≡ true → n ≡ 0) → from ≤ at → GoodCall t total from (traced t flush start n at)
 unfolding traced
-traced-good t flush total start n from at p r h = by-claim (claimAt t flush at) (claim-good t flush at)
+traced-good t flush total start n from at p r z h = by-claim (claimAt t flush at) (claim-good t flush at)
   where
     by-claim : (c : ClaimRead) → GoodClaim t flush (at + 1) c → GoodCall t total from (afterClaim c (λ claim next. Call (record { flush = flush; start = start; length = n; claim = claim; next = next })))
-    by-claim (Claimed claim next) g = record { later = omega (arith, g .later); ends = g .ends; part = p; room = r; fair = g .fair }
+    by-claim (Claimed claim next) g = record { later = omega (arith, g .later); ends = g .ends; part = p; room = r; bare = z; fair = g .fair }
     by-claim (NoClaim place) g = tt
 
 write-good : (t : List ℕ) (total from at : ℕ) → from ≤ at → GoodCall t total from (writeAt t total at)
@@ -110,7 +116,7 @@ write-good t total from at h =
     (λ n start e.
     let w = most-places t at (bytesMost - total) n start e in
     pick-holds (GoodCall t total from) (ltb (length t - start) n) _ _ (λ _. tt)
-    (λ s. traced-good t false total start n from (start + n) (omega (arith, ltb-false (length t - start) n s)) (most-value t at (bytesMost - total) n start e .1) (omega arith)))
+    (λ s. traced-good t false total start n from (start + n) (omega (arith, ltb-false (length t - start) n s)) (most-value t at (bytesMost - total) n start e .1) (λ f. absurd (true-false f)) (omega arith)))
 
 pub call-good : (t : List ℕ) (total at : ℕ) → GoodCall t total at (callAt t total at)
 unfolding callAt
@@ -120,7 +126,7 @@ call-good t total at =
     let w = most-places t at 1 kind next e in
     pick-holds (GoodCall t total at) (eqb kind 0) _ _
     (λ _. write-good t total at next (omega arith))
-    (λ _. traced-good t true total next 0 at next (omega arith) (omega arith) (omega arith)))
+    (λ _. traced-good t true total next 0 at next (omega arith) (omega arith) (λ f. refl) (omega arith)))
 
 -- of a call that is read
 pub within : (t : List ℕ) (total at : ℕ) (call : TracedCall) → callAt t total at ≡ Call call → CallWithin t total at call
