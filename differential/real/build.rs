@@ -12,7 +12,9 @@ fn folder() -> PathBuf {
     println!("cargo::rerun-if-env-changed=STD_FILES");
     match env::var_os("STD_FILES") {
         Some(folder) => PathBuf::from(folder),
-        None => Path::new(&env::var("CARGO_MANIFEST_DIR").unwrap()).join("../../../shared/docs/src"),
+        None => {
+            Path::new(&env::var("CARGO_MANIFEST_DIR").unwrap()).join("../../../shared/docs/src")
+        }
     }
 }
 

@@ -16,8 +16,7 @@ pub const FLUSH: u32 = 2;
 pub const FLUSH_BUF: u32 = 3;
 pub const LINE_WRITE: u32 = 4;
 pub const LINE_WRITE_ALL: u32 = 5;
-pub const WRITER_CALLS: [u32; 6] =
-    [WRITE, WRITE_ALL, FLUSH, FLUSH_BUF, LINE_WRITE, LINE_WRITE_ALL];
+pub const WRITER_CALLS: [u32; 6] = [WRITE, WRITE_ALL, FLUSH, FLUSH_BUF, LINE_WRITE, LINE_WRITE_ALL];
 
 /// The numbers of a reader's calls; the last five are the buffer's own.
 pub const READ: u32 = 0;

@@ -106,7 +106,7 @@ fn reader_scripts(to: &mut dyn Cases, case: &mut ReaderCall) {
     }
 }
 
-/// A state of any size; one in four is unfit or over a limit, and must be refused unchanged.
+/// A state of any size; one in four is at a limit or over it, and refused unchanged if over.
 pub fn random(to: &mut dyn Cases, random: &mut Random) {
     let capacity = large::capacity(random);
     let script = large::script(random, capacity);
@@ -133,7 +133,7 @@ pub fn random(to: &mut dyn Cases, random: &mut Random) {
         };
         if spoiled {
             for _ in 0..=random.below(2) {
-                spoil_writer(&mut case, random);
+                writer_fault(&mut case, random.below(WRITER_FAULTS), random.below(2));
             }
         }
         let expected = Expected::Exactly(case.expected());
@@ -164,7 +164,7 @@ pub fn random(to: &mut dyn Cases, random: &mut Random) {
         };
         if spoiled {
             for _ in 0..=random.below(2) {
-                spoil_reader(&mut case, random);
+                reader_fault(&mut case, random.below(READER_FAULTS), random.below(2));
             }
         }
         let expected = Expected::Exactly(case.expected());
@@ -172,37 +172,99 @@ pub fn random(to: &mut dyn Cases, random: &mut Random) {
     }
 }
 
-/// One more than `most`, or far more.
-fn over(most: usize, random: &mut Random) -> usize {
-    if random.one_in(4) { u32::MAX as usize } else { most + 1 }
-}
+const WRITER_FAULTS: usize = 7;
 
-/// A length at its limit or passing it by one.
-fn edge(limit: usize, random: &mut Random) -> usize {
-    limit + random.below(2)
-}
-
-fn spoil_writer(case: &mut WriterCall, random: &mut Random) {
-    match random.below(7) {
-        0 => case.storage.resize(edge(limits::CAPACITY, random), 1),
-        1 => case.script.resize(edge(limits::SCRIPT, random), 2),
-        2 => case.medium.resize(edge(limits::BYTES, random), 3),
-        3 => case.slice.resize(edge(limits::BYTES, random), 4),
-        4 => case.held = over(case.storage.len(), random),
-        5 => case.out = over(case.medium.len(), random),
-        _ => case.used = over(case.script.len(), random),
+/// Brings one thing to its limit, or `over` it.
+fn writer_fault(case: &mut WriterCall, fault: usize, over: usize) {
+    match fault {
+        0 => case.storage.resize(limits::CAPACITY + over, 1),
+        1 => case.script.resize(limits::SCRIPT + over, 2),
+        2 => case.medium.resize(limits::BYTES + over, 3),
+        3 => case.slice.resize(limits::BYTES + over, 4),
+        4 => case.held = case.storage.len() + over,
+        5 => case.out = case.medium.len() + over,
+        _ => case.used = case.script.len() + over,
     }
 }
 
-fn spoil_reader(case: &mut ReaderCall, random: &mut Random) {
-    match random.below(8) {
-        0 => case.storage.resize(edge(limits::CAPACITY, random), 1),
-        1 => case.script.resize(edge(limits::SCRIPT, random), 2),
-        2 => case.stock.resize(edge(limits::BYTES, random), 3),
-        3 if case.call == READ => case.destination.resize(edge(limits::BYTES, random), 4),
-        3 | 4 => case.filled = over(case.storage.len(), random),
-        5 => case.pos = over(case.filled, random),
-        6 => case.taken = over(case.stock.len(), random),
-        _ => case.used = over(case.script.len(), random),
+const READER_FAULTS: usize = 8;
+
+fn reader_fault(case: &mut ReaderCall, fault: usize, over: usize) {
+    match fault {
+        0 => case.storage.resize(limits::CAPACITY + over, 1),
+        1 => case.script.resize(limits::SCRIPT + over, 2),
+        2 => case.stock.resize(limits::BYTES + over, 3),
+        3 if case.call == READ => case.destination.resize(limits::BYTES + over, 4),
+        3 => case.size = (case.storage.len() + over) as i64,
+        4 => case.filled = case.storage.len() + over,
+        5 => case.pos = case.filled + over,
+        6 => case.taken = case.stock.len() + over,
+        _ => case.used = case.script.len() + over,
+    }
+}
+
+/// Each limit and each pair of them, met or passed by one or by far: which refusal comes first,
+/// and that it changes nothing.
+pub fn refusals(to: &mut dyn Cases) {
+    let far = 100_000;
+    let pairs = |faults: usize| {
+        (0..faults).flat_map(move |first| (first..faults).map(move |second| (first, second)))
+    };
+    let overs = [(0, 0), (1, 1), (0, 1), (1, 0)];
+    for call in WRITER_CALLS {
+        let start = WriterCall {
+            call,
+            storage: b"abcd".to_vec(),
+            held: 2,
+            script: vec![1, 65_536, 0],
+            used: 1,
+            medium: b"123".to_vec(),
+            out: 1,
+            slice: b"xyz".to_vec(),
+        };
+        let mut ask =
+            |case: &WriterCall| to.add(case.request(), Expected::Exactly(case.expected()));
+        for (first, second) in pairs(WRITER_FAULTS) {
+            for (over, also) in overs {
+                let mut case = start.clone();
+                writer_fault(&mut case, first, over);
+                writer_fault(&mut case, second, also);
+                ask(&case);
+            }
+        }
+        for fault in 4..WRITER_FAULTS {
+            let mut case = start.clone();
+            writer_fault(&mut case, fault, far);
+            ask(&case);
+        }
+    }
+    for call in READER_CALLS {
+        let start = ReaderCall {
+            call,
+            storage: b"abcd".to_vec(),
+            pos: 1,
+            filled: 2,
+            script: vec![1, 65_536, 0],
+            used: 1,
+            stock: b"123".to_vec(),
+            taken: 1,
+            size: 1,
+            destination: if call == READ { b"****".to_vec() } else { vec![] },
+        };
+        let mut ask =
+            |case: &ReaderCall| to.add(case.request(), Expected::Exactly(case.expected()));
+        for (first, second) in pairs(READER_FAULTS) {
+            for (over, also) in overs {
+                let mut case = start.clone();
+                reader_fault(&mut case, first, over);
+                reader_fault(&mut case, second, also);
+                ask(&case);
+            }
+        }
+        for fault in 4..READER_FAULTS {
+            let mut case = start.clone();
+            reader_fault(&mut case, fault, far);
+            ask(&case);
+        }
     }
 }

@@ -17,10 +17,6 @@ use std::rc::Rc;
 /// The one error code of the small worlds.
 const CODE: u32 = 5;
 
-/// More replies than a call of the small worlds needs. Were it too few, the port would say possible
-/// where this says impossible, and the run would fail.
-const REPLIES: usize = 4;
-
 /// Where a run can stand between two calls: the bytes held, and those out.
 type Place = (Vec<u8>, Vec<u8>);
 
@@ -30,6 +26,9 @@ type Outcomes = Rc<BTreeSet<(Claim, Vec<u8>, Vec<u8>)>>;
 /// One capacity, and what was found of its calls so far.
 struct World {
     capacity: usize,
+    /// How many replies one call may take. Two are enough; were they too few, the port would say
+    /// possible where this says impossible, and the run would fail.
+    replies: usize,
     known: HashMap<(Vec<u8>, Vec<u8>, bool), Outcomes>,
 }
 
@@ -68,7 +67,7 @@ impl World {
         let (held_after, device) = writer.into_parts();
         if device.calls == device.used {
             found.insert((claimed(answer), held_after, device.medium));
-        } else if script.len() < REPLIES {
+        } else if script.len() < self.replies {
             // The run met the script's end, which no trace can claim: give it another reply.
             for &reply in replies {
                 script.push(reply);
@@ -94,7 +93,7 @@ fn claimed(answer: Answer) -> Claim {
 /// a beginning of what was answered, and some that are none.
 pub fn small(to: &mut dyn Cases, calls: usize) {
     for capacity in 0..=3 {
-        let mut world = World { capacity, known: HashMap::new() };
+        let mut world = World { capacity, replies: 4, known: HashMap::new() };
         let start = BTreeSet::from([(vec![], vec![])]);
         let mut trace = Trace { capacity, calls: vec![], card: vec![] };
         traces(to, &mut world, &mut trace, &start, calls);
@@ -112,9 +111,8 @@ fn traces(
     if calls == 0 || to.over() {
         return;
     }
-    let first = trace.calls.len() as u8 * 8 + b'a';
     for length in 0..=world.capacity + 2 {
-        let slice: Vec<u8> = (first..).take(length).collect();
+        let slice = slice(trace.calls.len(), length);
         for claim in claims(Some(length as u32)) {
             let next = step(world, places, Some(&slice), claim);
             trace.calls.push(Traced::Write(slice.clone(), claim));
@@ -128,6 +126,11 @@ fn traces(
         traces(to, world, trace, &next, calls - 1);
         trace.calls.pop();
     }
+}
+
+/// Bytes that no other call of a short trace has.
+fn slice(call: usize, length: usize) -> Vec<u8> {
+    (0..length).map(|i| (call * 16 + i) as u8).collect()
 }
 
 /// The claims to try; an ok above the length is one.
@@ -152,6 +155,55 @@ fn step(
         }
     }
     next
+}
+
+/// A random trace of a middle world, where most claims are such that the trace can go on.
+pub fn middle(to: &mut dyn Cases, random: &mut Random) {
+    let capacity = 4 + random.to(4);
+    let mut world = World { capacity, replies: 2, known: HashMap::new() };
+    let mut trace = Trace { capacity, calls: vec![], card: vec![] };
+    let mut places = BTreeSet::from([(vec![], vec![])]);
+    for i in 0..=random.below(8) {
+        let slice = slice(i, random.to(capacity + 2));
+        let slice = (!random.one_in(3)).then_some(&slice[..]);
+        let all: Vec<Claim> = claims(slice.map(|slice| slice.len() as u32)).collect();
+        let mut claim = random.pick(&all);
+        if !random.one_in(16) && !places.is_empty() {
+            let (held, _) = places.iter().nth(random.below(places.len())).unwrap();
+            let outcomes = world.outcomes(held, slice);
+            claim = outcomes.iter().nth(random.below(outcomes.len())).unwrap().0;
+        }
+        places = step(&mut world, &places, slice, claim);
+        trace.calls.push(match slice {
+            Some(slice) => Traced::Write(slice.to_vec(), claim),
+            None => Traced::Flush(claim),
+        });
+    }
+    cards(to, &mut trace, &places);
+}
+
+/// Traces that no session can carry, for the judge as a function.
+pub fn long(to: &mut dyn Cases) {
+    let length = limits::BYTES / limits::TRACE_CALLS;
+    let write = |i: usize| Traced::Write(slice(i, length), Claim::Ok(length as u32));
+    let calls: Vec<_> = (0..limits::TRACE_CALLS).map(write).collect();
+    let mut trace = Trace { capacity: limits::CAPACITY, calls, card: vec![] };
+    let whole = answered(&trace);
+    let mut ask = |bytes: &[u8], line: String| {
+        to.add([b"j", bytes].concat(), Expected::Exactly(line.into_bytes()));
+    };
+    // Sixteen writes fill the buffer and the next one sends it, so the last 1,024 bytes are held.
+    for left in [0, 1, limits::CAPACITY - 1, limits::CAPACITY, limits::CAPACITY + 1] {
+        trace.card = whole[..whole.len() - left].to_vec();
+        let word = if left == limits::CAPACITY { "possible" } else { "impossible" };
+        ask(&trace.bytes(), format!("judge {word}\n"));
+    }
+    let mut surplus = trace.bytes();
+    let place = surplus.len();
+    assert!(place > limits::SESSION - 1_000);
+    surplus.push(0);
+    ask(&surplus, format!("judge refused 7 at {place}\n"));
+    ask(&surplus[..place - 1], format!("judge refused 7 at {}\n", place - 1));
 }
 
 fn cards(to: &mut dyn Cases, trace: &mut Trace, places: &BTreeSet<Place>) {
@@ -270,4 +322,17 @@ pub fn rows(to: &mut dyn Cases) {
         verdict(to, &Trace { capacity: 4, calls, card: card.to_vec() }, possible);
     }
     to.add(request::session(&[3, 4, 0, 0]), Expected::Exactly(b"judge possible\n".to_vec()));
+}
+
+/// A trace as large as a session can carry: 256 calls, with flushes that leave many places open.
+pub fn largest() -> Trace {
+    let call = |i: usize| match i % 8 {
+        7 => Traced::Flush(Claim::Error(CODE)),
+        _ => Traced::Write(vec![i as u8; 70], Claim::Ok(70)),
+    };
+    let calls: Vec<_> = (0..limits::TRACE_CALLS).map(call).collect();
+    let mut trace = Trace { capacity: limits::CAPACITY, calls, card: vec![] };
+    trace.card = answered(&trace);
+    assert!(trace.session().len() <= limits::SESSION);
+    trace
 }

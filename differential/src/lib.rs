@@ -11,6 +11,8 @@ pub mod direct_worlds;
 pub mod hex;
 pub mod judge;
 pub mod large;
+#[cfg(feature = "linked")]
+pub mod library;
 pub mod limits;
 pub mod mirror;
 pub mod numbers;

@@ -398,13 +398,7 @@ fn lines(slip: Slip, input: &[u8]) -> Vec<u8> {
             writeln!(to, "refused 6 at {}", place + 1).unwrap()
         }
         Err(Fault(place)) => writeln!(to, "refused 6 at {place}").unwrap(),
-        Ok(Input::Trace(bytes)) => match trace::check(bytes) {
-            Err(Fault(place)) => writeln!(to, "judge refused 7 at {place}").unwrap(),
-            Ok(trace) => {
-                let word = if possible(slip, &trace) { "possible" } else { "impossible" };
-                writeln!(to, "judge {word}").unwrap();
-            }
-        },
+        Ok(Input::Trace(bytes)) => to = judge(slip, bytes),
         Ok(Input::Session(session)) => run(slip, &session, &mut to),
     }
     to
@@ -485,6 +479,15 @@ fn run(slip: Slip, session: &Session, to: &mut Vec<u8>) {
     }
 }
 
+fn judge(slip: Slip, trace: &[u8]) -> Vec<u8> {
+    let line = match trace::check(trace) {
+        Err(Fault(place)) => format!("judge refused 7 at {place}\n"),
+        Ok(trace) if possible(slip, &trace) => "judge possible\n".into(),
+        Ok(_) => "judge impossible\n".into(),
+    };
+    line.into_bytes()
+}
+
 /// The judge as a walk over the held counts that some replies could have left.
 fn possible(slip: Slip, trace: &Trace) -> bool {
     match slip {
@@ -542,8 +545,7 @@ fn writer_call(slip: Slip, mut parts: Parts) -> Vec<u8> {
     let device = parts.bytes().to_vec();
     let moved = parts.count();
     let slice = parts.bytes();
-    let mut state =
-        State { slip, storage, pos: 0, filled, script, used, calls: 0, device, moved };
+    let mut state = State { slip, storage, pos: 0, filled, script, used, calls: 0, device, moved };
     let sliced = !matches!(call, direct::FLUSH | direct::FLUSH_BUF);
     let answer = match state.unfit((sliced && slice.len() > limits::BYTES).then_some(2)) {
         Some(number) => Answer::Refused(number),
@@ -625,6 +627,7 @@ impl Port for Mirror {
     fn answers(&mut self, requests: &[Vec<u8>]) -> Vec<Vec<u8>> {
         let answer = |request: &Vec<u8>| match request.split_first().unwrap() {
             (b's', session) => lines(self.0, session),
+            (b'j', trace) => judge(self.0, trace),
             (b'w', call) => writer_call(self.0, Parts(call)),
             (_, call) => reader_call(self.0, Parts(call)),
         };

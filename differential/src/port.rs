@@ -75,49 +75,32 @@ pub struct Linked {
 }
 
 #[cfg(feature = "linked")]
-mod library {
-    unsafe extern "C" {
-        /// Writes a session's lines into `output` and gives their length.
-        pub fn stackglow_session(
-            session: *const u8,
-            session_length: usize,
-            output: *mut u8,
-            output_length: usize,
-        ) -> usize;
-
-        /// The same for a request `w` or `r`.
-        pub fn stackglow_direct(
-            request: *const u8,
-            request_length: usize,
-            output: *mut u8,
-            output_length: usize,
-        ) -> usize;
-    }
-}
-
-#[cfg(feature = "linked")]
 impl Linked {
     pub fn new() -> Self {
         // The longest lines are 1,024 of `peek`, each with 1,024 bytes in hex: 2 MiB and a bit.
         Self { output: vec![0; 4 << 20] }
+    }
+
+    fn answer(&mut self, request: &[u8]) -> Vec<u8> {
+        use crate::library::{stackglow_direct, stackglow_session};
+        let output = &mut self.output;
+        let (to, room) = (output.as_mut_ptr(), output.len());
+        // SAFETY: both slices are lent whole, with their lengths.
+        let length = unsafe {
+            match request.split_first() {
+                Some((b's', session)) => {
+                    stackglow_session(session.as_ptr(), session.len(), to, room)
+                }
+                _ => stackglow_direct(request.as_ptr(), request.len(), to, room),
+            }
+        };
+        output[..length].to_vec()
     }
 }
 
 #[cfg(feature = "linked")]
 impl Port for Linked {
     fn answers(&mut self, requests: &[Vec<u8>]) -> Vec<Vec<u8>> {
-        let mut answer = |request: &[u8]| {
-            let (function, bytes) = match request.split_first().unwrap() {
-                (b's', session) => (library::stackglow_session as unsafe extern "C" fn(_, _, _, _) -> _, session),
-                _ => (library::stackglow_direct as _, request),
-            };
-            let output = &mut self.output;
-            // SAFETY: both slices are lent whole, with their lengths.
-            let length: usize = unsafe {
-                function(bytes.as_ptr(), bytes.len(), output.as_mut_ptr(), output.len())
-            };
-            output[..length].to_vec()
-        };
-        requests.iter().map(|request| answer(request)).collect()
+        requests.iter().map(|request| self.answer(request)).collect()
     }
 }

@@ -4,6 +4,7 @@
 //! replies come after their count.
 //!
 //! - `s`, then a session to the end: the answer is the session's lines.
+//! - `j`, then a trace to the end: the answer is the judge's line.
 //! - `w`, call, storage, held, script, used, medium, out, slice: the answer is
 //!   answer, value, calls, held, out, used (numbers), then all of the storage and of the medium.
 //! - `r`, call, storage, pos, filled, script, used, stock, taken, size (64 bits), destination: the

@@ -51,13 +51,17 @@ pub fn all(to: &mut Comparison, plan: &Plan) {
         }
     };
     part("stored sessions", &mut |to, _| stored::cases(to));
-    part("bench sheet's traces", &mut |to, _| judge::rows(to));
+    part("bench sheet's and long traces", &mut |to, _| {
+        judge::rows(to);
+        judge::long(to);
+    });
     part("faults and limits", &mut |to, _| damage::named(to));
     part("small writers", &mut |to, _| small::writer(to, if plan.deep { 3 } else { 2 }));
     part("small line writers", &mut |to, _| small::line_writer(to, plan.deep));
     part("small readers", &mut |to, _| small::reader(to, plan.deep));
     part("small traces", &mut |to, _| judge::small(to, plan.traced));
     if real::io::LAID_OPEN {
+        part("refused direct calls", &mut |to, _| direct_worlds::refusals(to));
         part("small direct calls", &mut |to, _| direct_worlds::small(to));
     } else if !plan.quiet {
         println!("direct calls: left out, they need the std files");
@@ -70,6 +74,9 @@ pub fn all(to: &mut Comparison, plan: &Plan) {
     });
     part("random damaged sessions", &mut |to, random| {
         each(plan.sessions / 10, to, &mut |to| damage::random(to, random))
+    });
+    part("random traces by brute force", &mut |to, random| {
+        each(plan.sessions / 200, to, &mut |to| judge::middle(to, random))
     });
     part("random traces", &mut |to, random| {
         each(plan.sessions / 10, to, &mut |to| judge::large(to, random))

@@ -11,7 +11,9 @@ pub use self::buffered::buffer::Buffer;
 pub use self::buffered::bufreader::BufReader;
 pub use self::buffered::bufwriter::BufWriter;
 use self::buffered::linewritershim::LineWriterShim;
-pub use std::io::{Error, ErrorKind, IoSlice, IoSliceMut, Result, Seek, SeekFrom, Write, const_error};
+pub use std::io::{
+    Error, ErrorKind, IoSlice, IoSliceMut, Result, Seek, SeekFrom, Write, const_error,
+};
 
 /// Whether the calls below that lay a writer's storage open are there.
 pub const LAID_OPEN: bool = true;

@@ -2,7 +2,14 @@
 //! from the published files as they are, in a crate whose root looks to them like std's own.
 
 #![feature(staged_api, rustc_attrs, prelude_import)]
-#![feature(slice_internals, try_with_capacity, allocator_api, io_const_error, can_vector, min_specialization)]
+#![feature(
+    slice_internals,
+    try_with_capacity,
+    allocator_api,
+    io_const_error,
+    can_vector,
+    min_specialization
+)]
 #![allow(internal_features, dead_code, unused_features, stable_features)]
 #![unstable(feature = "real_code", issue = "none")]
 

@@ -8,6 +8,7 @@ use differential::runs::{self, Plan};
 use differential::sample;
 use std::io::{Read, Write};
 use std::process::ExitCode;
+use std::sync::atomic::Ordering;
 use std::time::Instant;
 
 const USAGE: &str = "differential [--seed N] [--sessions N] [--deep] PORT
@@ -55,7 +56,8 @@ fn compare(port: &mut dyn Port, plan: &Plan) -> ExitCode {
     let mut comparison = Comparison::new(port, false);
     runs::all(&mut comparison, plan);
     comparison.report();
-    println!("the ledger held on the real code in every session");
+    let ledgers = oracle::LEDGERS.load(Ordering::Relaxed);
+    println!("the ledger held on the real code in {ledgers} sessions");
     println!("{:.1} s", start.elapsed().as_secs_f64());
     verdict(comparison.passed, comparison.failed)
 }
