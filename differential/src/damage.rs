@@ -130,7 +130,7 @@ pub fn spoil(bytes: &mut Vec<u8>, random: &mut Random) {
         let reach = if random.one_in(2) { bytes.len().min(12) } else { bytes.len() };
         let at = random.to(reach).min(bytes.len());
         let byte = match random.below(4) {
-            0 => random.next() as u8,
+            0 => random.word() as u8,
             1 => random.pick(&[0x80, 0xff, 0x0f, 0x10, 0x7f]),
             _ => random.to(9) as u8,
         };

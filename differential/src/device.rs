@@ -49,7 +49,7 @@ impl Device {
     fn reply(&mut self) -> Result<usize> {
         self.calls += 1;
         let Some(&reply) = self.script.get(self.used) else {
-            return Err(Error::new(ErrorKind::Other, Refusal::Code(0)));
+            return Err(Error::other(Refusal::Code(0)));
         };
         self.used += 1;
         match reply {
@@ -57,7 +57,7 @@ impl Device {
             0..limits::INTERRUPTED => Ok(reply as usize),
             _ => {
                 let code = reply - limits::INTERRUPTED;
-                Err(Error::new(ErrorKind::Other, Refusal::Code(code)))
+                Err(Error::other(Refusal::Code(code)))
             }
         }
     }
@@ -92,6 +92,6 @@ impl Read for Device {
 
 impl Seek for Device {
     fn seek(&mut self, _: SeekFrom) -> Result<u64> {
-        Err(Error::new(ErrorKind::Other, Refusal::Seek))
+        Err(Error::other(Refusal::Seek))
     }
 }

@@ -282,7 +282,7 @@ pub fn large(to: &mut dyn Cases, random: &mut Random) {
         }
         1 if whole.len() < limits::BYTES => {
             trace.card = whole;
-            trace.card.push(random.next() as u8);
+            trace.card.push(random.word() as u8);
         }
         2 if whole.len() > capacity => {
             // More is missing than the buffer can hold.

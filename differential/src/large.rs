@@ -75,8 +75,12 @@ fn near(random: &mut Random, edges: &[usize]) -> usize {
 /// Bytes in which about one in `rarity` is a newline; 0 for none.
 pub fn bytes(random: &mut Random, n: usize, rarity: usize) -> Vec<u8> {
     let mut byte = || {
-        let word = random.next();
-        if rarity > 0 && (word >> 32) as usize % rarity == 0 { b'\n' } else { word as u8 }
+        let word = random.word();
+        if rarity > 0 && ((word >> 32) as usize).is_multiple_of(rarity) {
+            b'\n'
+        } else {
+            word as u8
+        }
     };
     (0..n).map(|_| byte()).collect()
 }

@@ -51,7 +51,7 @@ pub enum Slip {
 }
 
 impl Slip {
-    pub const PLANTED: [Slip; 27] = [
+    const PLANTED: [Slip; 27] = [
         Slip::StoresWhatFillsEmptyBuffer,
         Slip::SendsWhatFillsSpare,
         Slip::DrainsOnlyWhenDone,
@@ -80,6 +80,18 @@ impl Slip {
         Slip::ZeroAfterWholeFlush,
         Slip::StoppedFlushKeepsAll,
     ];
+
+    /// All that the runs can find: without the std files there are no direct calls.
+    pub fn planted() -> impl Iterator<Item = Slip> {
+        let direct = |slip: &Slip| {
+            use Slip::*;
+            matches!(
+                slip,
+                DrainClearsTheRest | ReadClearsTheRest | LengthBeforeState | StateUnchecked
+            )
+        };
+        Self::PLANTED.into_iter().filter(move |slip| real::io::LAID_OPEN || !direct(slip))
+    }
 }
 
 /// What a device call moved, or why it moved nothing.

@@ -29,7 +29,7 @@ impl Cases for Collector {
             return;
         };
         if session.len() <= self.longest {
-            if self.seen % self.stride == 0 {
+            if self.seen.is_multiple_of(self.stride) {
                 self.cases.push((session.to_vec(), lines));
             }
             self.seen += 1;
