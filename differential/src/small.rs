@@ -19,7 +19,7 @@ pub fn writer(to: &mut dyn Cases, depth: usize) {
 }
 
 /// Two calls of the line writer, with newlines at every choice of places. If not `deep`, the first
-/// is a `write` of at most capacity + 1, which is enough to leave the buffer in any state.
+/// is a `write` of at most capacity + 1, to keep the run short.
 pub fn line_writer(to: &mut dyn Cases, deep: bool) {
     for capacity in 0..=3 {
         let slices: Vec<_> = (0..=capacity + 2).flat_map(patterns).collect();
