@@ -20,7 +20,7 @@ use Rattle.card.specs.Limits.{refusalOf, lengthRefusal}
 use Rattle.card.specs.Device.{exchange, moves, takes}
 use Rattle.card.proofs.Replies.{exchange-most, takes-fit, used-of-exchange}
 use Rattle.writer.specs.declared.Sent.{Sent}
-use Rattle.writer.specs.World.{World, Called, Fit, taken, drained, kept, capacity, room, replies, isOk, andThen, nothing, refusing, worldOf, fresh}
+use Rattle.writer.specs.World.{World, Called, Fit, taken, drained, kept, capacity, room, replies, isOk, andThen, nothing, refusing, begun, worldOf, fresh}
 use Rattle.writer.specs.Send.{writeSaid, flushReplySaid, sendFrom}
 use Rattle.writer.specs.Writer.{flushBuf, flushedBy, stored, placed, deviceWrite, write, deviceFlush, flush, writeCall, flushCall}
 use Rattle.writer.specs.Line.{linesLength, endsLine, completed, tailKept, keepTail, countOf, sendLines, lineWrite, lineWriteCall}
@@ -185,27 +185,21 @@ line-write-moved script w s fit = by (eqb (linesLength s) 0)
 
 -- ---- any call, refused or not
 
--- a call begins with no device call made
-begun : World → World
-begun w = record { storage = w .storage; medium = w .medium; held = w .held; out = w .out; used = w .used; writes = 0; flushes = 0 }
-
-begun-fit : (script : List ℕ) (w : World) → In script w → Fit script (begun w)
-unfolding begun
+pub begun-fit : (script : List ℕ) (w : World) → In script w → Fit script (begun w)
 begun-fit script w i = record { held = i .held; out = i .out; used = i .used; few = omega arith }
 
 refusing-moved : (script : List ℕ) (w : World) (own : ℕ) (call : World → Called) (p : Said → List ℕ) → In script w → ((number : ℕ) → p (refused number) ≡ []) → Moved script w (call (begun w) .world) (p (call (begun w) .answer)) → Moved script w (refusing script w own call .world) (p (refusing script w own call .answer))
-unfolding refusing begun
+unfolding refusing
 refusing-moved script w own call p i none m = by (eqb (refusalOf (capacity w) (length script) (length (w .medium)) 0 (w .held) (w .out) (w .used) own) 0)
   where
     number : ℕ
     number = refusalOf (capacity w) (length script) (length (w .medium)) 0 (w .held) (w .out) (w .used) own
 
-    by : (t : Bool) → Moved script w (pick t (call (record { storage = w .storage; medium = w .medium; held = w .held; out = w .out; used = w .used; writes = 0; flushes = 0 })) (record { answer = refused number; world = w }) .world) (p (pick t (call (record { storage = w .storage; medium = w .medium; held = w .held; out = w .out; used = w .used; writes = 0; flushes = 0 })) (record { answer = refused number; world = w }) .answer))
+    by : (t : Bool) → Moved script w (pick t (call (begun w)) (record { answer = refused number; world = w }) .world) (p (pick t (call (begun w)) (record { answer = refused number; world = w }) .answer))
     by true = m
     by false = subst (λ (q : List ℕ). Moved script w w q) (sym (none number)) (unmoved script w w i refl refl refl refl (i .used))
 
-from-begun : (script : List ℕ) (w v : World) (p : List ℕ) → Moved script (begun w) v p → Moved script w v p
-unfolding begun
+pub from-begun : (script : List ℕ) (w v : World) (p : List ℕ) → Moved script (begun w) v p → Moved script w v p
 from-begun script w v p m =
     record {
       bytes = m .bytes;

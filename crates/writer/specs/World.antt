@@ -98,13 +98,10 @@ andThen c next = pick (isOk (c .answer)) (next (c .world)) c
 abbrev pub nothing : World → Called
 nothing w = record { answer = done; world = w }
 
--- A refused call has no device call, and leaves everything unchanged; another begins with no device call made
-unfoldable pub refusing : List ℕ → World → ℕ → (World → Called) → Called
-refusing script w own call =
-    let number : ℕ = refusalOf (capacity w) (length script) (length (w .medium)) 0 (w .held) (w .out) (w .used) own in
-    pick (eqb number 0)
-    (call
-    (record {
+-- a call begins with no device call made
+abbrev pub begun : World → World
+begun w =
+    record {
       storage = w .storage;
       medium = w .medium;
       held = w .held;
@@ -112,8 +109,13 @@ refusing script w own call =
       used = w .used;
       writes = 0;
       flushes = 0;
-    }))
-    (record { answer = refused number; world = w })
+    }
+
+-- A refused call has no device call, and leaves everything unchanged
+unfoldable pub refusing : List ℕ → World → ℕ → (World → Called) → Called
+refusing script w own call =
+    let number : ℕ = refusalOf (capacity w) (length script) (length (w .medium)) 0 (w .held) (w .out) (w .used) own in
+    pick (eqb number 0) (call (begun w)) (record { answer = refused number; world = w })
 
 -- ---- how the code's values say it
 
