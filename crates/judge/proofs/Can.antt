@@ -210,34 +210,34 @@ module _ (script : List ℕ) (w : World) (s : List ℕ) (fit : Fit script w) whe
 
 -- ---- the replies for each row
 
-directReply : {n : ℕ} {said : Said} → Direct n said → ℕ
+unfoldable pub directReply : {n : ℕ} {said : Said} → Direct n said → ℕ
 directReply (Direct.took m h e) = m
 directReply (Direct.cut-off e) = cut
 directReply (Direct.failed code e) = fails code
 
-syncedReply : {said : Said} → Synced said → ℕ
+unfoldable pub syncedReply : {said : Said} → Synced said → ℕ
 syncedReply (Synced.well e) = 0
 syncedReply (Synced.cut-off e) = cut
 syncedReply (Synced.failed code e) = fails code
 
-stoppedReply : {said : Said} → Stopped said → ℕ
+unfoldable pub stoppedReply : {said : Said} → Stopped said → ℕ
 stoppedReply (Stopped.none e) = 0
 stoppedReply (Stopped.failed code e) = fails code
 
-pub writeReplies : {C h n : ℕ} {said : Said} {h′ : ℕ} → WriteStep C h n said h′ → List ℕ
+unfoldable pub writeReplies : {C h n : ℕ} {said : Said} {h′ : ℕ} → WriteStep C h n said h′ → List ℕ
 unfolding directReply stoppedReply
 writeReplies (WriteStep.stored a b c d) = []
 writeReplies {h = h} (WriteStep.refilled a b c d) = sends h
 writeReplies {h = h} (WriteStep.direct a d e) = sends h ++ (directReply d ∷ [])
 writeReplies {h = h} {h′ = h′} (WriteStep.stopped a s c d) = sends (h - h′) ++ (stoppedReply s ∷ [])
 
-pub flushReplies : {h : ℕ} {said : Said} {h′ : ℕ} → FlushStep h said h′ → List ℕ
+unfoldable pub flushReplies : {h : ℕ} {said : Said} {h′ : ℕ} → FlushStep h said h′ → List ℕ
 unfolding syncedReply stoppedReply
 flushReplies {h = h} (FlushStep.emptied s e) = sends h ++ (syncedReply s ∷ [])
 flushReplies {h = h} {h′ = h′} (FlushStep.stopped s c d) = sends (h - h′) ++ (stoppedReply s ∷ [])
 
 -- a code that a trace can claim
-pub Claimable : Said → Type 0
+unfoldable pub Claimable : Said → Type 0
 Claimable said = (code : ℕ) → said ≡ error code → (0 < code) × (code ≤ 4294901759)
 
 ran-as : (script : List ℕ) (c : Called) (a b : Said) (h k : ℕ) (later : List ℕ) → Ran script c a h later → a ≡ b → h ≡ k → Ran script c b k later

@@ -2,3 +2,4 @@
 pub mod Table
 pub mod Only
 pub mod Can
+pub mod Runs
