@@ -26,7 +26,7 @@ use Rattle.writer.specs.Writer.{flushBuf, flushedBy, stored, placed, cold, writ
 use Rattle.writer.proofs.Sends.{send-done, send-accept, send-zero, send-failed}
 use Rattle.writer.proofs.Flushes.{Keeps, keeps, fit-after}
 use Rattle.writer.proofs.Cases.{then-ok, then-failed}
-use Rattle.judge.proofs.Table.{Direct, Synced, Stopped, WriteStep, FlushStep}
+use Rattle.judge.specs.Table.{Direct, Synced, Stopped, WriteStep, FlushStep}
 
 -- ---- replies
 

@@ -1,5 +1,6 @@
--- `Table` has the held counts that a call can leave, `Only` that no replies leave another, `Can` replies for each.
-pub mod Table
+-- `Only`: no replies leave a held count that the table does not have. `Can`: replies for each row. `Runs`: both, over the
+-- calls of a trace.
 pub mod Only
 pub mod Can
 pub mod Runs
+pub mod Sets

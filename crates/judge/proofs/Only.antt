@@ -17,7 +17,7 @@ use Rattle.writer.specs.Send.{flushSaid, writeSaid, flushReplySaid, sendFrom}
 use Rattle.writer.specs.Writer.{flushBuf, stored, deviceWrite, write, deviceFlush, flush}
 use Rattle.writer.proofs.Flushes.{Keeps, keeps}
 use Rattle.writer.proofs.Cases.{flush-cases, written-cases, placed-by}
-use Rattle.judge.proofs.Table.{Direct, Synced, Stopped, WriteStep, FlushStep}
+use Rattle.judge.specs.Table.{Direct, Synced, Stopped, WriteStep, FlushStep}
 
 -- a flush that is stopped says so
 said-stopped : (o : Outcome) → (flushSaid o ≡ done → ⊥) → Stopped (flushSaid o)

@@ -27,23 +27,9 @@ use Rattle.trace.specs.Calls.{Told, wrote, flushed, written}
 use Rattle.trace.proofs.Within.{Fair}
 use Rattle.trace.proofs.Rests.{FairSaid, FairTold, AllFair}
 use Rattle.judge.specs.Judge.{calledBy, claim, Explains, Numbers, Possible}
-use Rattle.judge.proofs.Table.{Direct, Synced, Stopped, WriteStep, FlushStep, Step}
+use Rattle.judge.specs.Table.{Direct, Synced, Stopped, WriteStep, FlushStep, Step, Reach, piece, pieces}
 use Rattle.judge.proofs.Only.{only-write, only-flush}
 use Rattle.judge.proofs.Can.{sends, cut, fails, directReply, syncedReply, stoppedReply, writeReplies, flushReplies, Claimable, Ran, can-write, can-flush}
-
--- held counts that the table leads to through the calls, from h to e
-unfoldable pub Reach : ℕ → ℕ → List Told → ℕ → Type 0
-Reach C h [] e = h ≡ e
-Reach C h (call ∷ calls) e = (h′ : ℕ) × (Step C h call h′ × Reach C h′ calls e)
-
--- the bytes that the claims answer for, in call order
-abbrev pub piece : Told → List ℕ
-piece (wrote s said) = accepted s said
-piece (flushed said) = []
-
-unfoldable pub pieces : List Told → List ℕ
-pieces [] = []
-pieces (call ∷ calls) = piece call ++ pieces calls
 
 -- the card is l without its last e bytes
 pub record Left (e : ℕ) (l card : List ℕ) : Type 0 where

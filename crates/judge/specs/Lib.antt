@@ -1,1 +1,3 @@
 pub mod Judge
+pub mod Table
+pub mod Flags

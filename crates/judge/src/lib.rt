@@ -1,4 +1,6 @@
 // The judge: whether some finite list of card replies explains a trace.
+mod flags;
+
 pub enum Verdict {
     Possible,
     Impossible,

@@ -1,10 +1,11 @@
--- The table: from h held bytes, which held counts a call can leave with which answer. C is the capacity, n the slice's length.
+-- What the judge walks by; its promise cites none of this. The table: from h held bytes, which held counts a call can leave with which answer. C is the capacity, n the slice's length.
 -- Assumes nothing.
 use Prim.Native.Nat.{ℕ, _+_, _≤_, _<_}
 use mathlib.Core.Path.{_≡_}
-use mathlib.Core.List.{List, [], _∷_}
+use mathlib.Core.List.{List, [], _∷_, _++_}
 use lib.ListN.{length}
 use Rattle.card.specs.Answers.{Said, ok, done, interrupted, zero-taken, error}
+use Rattle.writer.specs.Ledger.{accepted}
 use Rattle.trace.specs.Calls.{Told, wrote, flushed}
 
 -- the answers of a device write of n bytes
@@ -38,3 +39,17 @@ pub data FlushStep (h : ℕ) (said : Said) (h′ : ℕ) : Type 0 where
 abbrev pub Step : ℕ → ℕ → Told → ℕ → Type 0
 Step C h (wrote s said) h′ = WriteStep C h (length s) said h′
 Step C h (flushed said) h′ = FlushStep h said h′
+
+-- held counts that the table leads to through the calls, from h to e
+unfoldable pub Reach : ℕ → ℕ → List Told → ℕ → Type 0
+Reach C h [] e = h ≡ e
+Reach C h (call ∷ calls) e = (h′ : ℕ) × (Step C h call h′ × Reach C h′ calls e)
+
+-- the bytes that the claims answer for, in call order
+abbrev pub piece : Told → List ℕ
+piece (wrote s said) = accepted s said
+piece (flushed said) = []
+
+unfoldable pub pieces : List Told → List ℕ
+pieces [] = []
+pieces (call ∷ calls) = piece call ++ pieces calls
