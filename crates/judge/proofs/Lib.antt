@@ -4,3 +4,5 @@ pub mod Only
 pub mod Can
 pub mod Runs
 pub mod Sets
+pub mod Turns
+pub mod Walks

@@ -13,7 +13,8 @@ use Rattle.trace.specs.declared.Claim.the-variants.{Ok, Done, Interrupted, Zero
 use Rattle.trace.specs.declared.Header.{Header}
 use Rattle.trace.specs.Calls.{Told}
 use Rattle.trace.specs.Trace.{trace, callsFrom}
-use Rattle.judge.specs.Table.{Reach, pieces}
+use Rattle.trace.specs.Claims.{claimed}
+use Rattle.judge.specs.Table.{WriteStep, FlushStep, Reach, pieces}
 
 -- the flag of k is set
 pub record Has (flags : List ℕ) (k : ℕ) : Type 0 where
@@ -90,6 +91,20 @@ halts (Error code) = 1
 -- up to where a stopped flush can leave counts from 1 on: the highest flag decides
 abbrev pub stopEnd : ℕ → Bool → ℕ → Claim → ℕ → ℕ
 stopEnd C flush n claim high = pick (eqb (halts claim) 0) 0 (pick flush high (pick (ltb C (high - 1 + n)) high 0))
+
+-- the table's step of a call by its kind
+abbrev pub StepOf : ℕ → ℕ → Bool → ℕ → Claim → ℕ → Type 0
+StepOf C h flush n claim k = pick flush (FlushStep h (claimed claim) k) (WriteStep C h n (claimed claim) k)
+
+-- some flag leads to k
+pub record Leads (C : ℕ) (flush : Bool) (n : ℕ) (claim : Claim) (old : List ℕ) (k : ℕ) : Type 0 where
+  pub from : ℕ
+  pub set : Has old from
+  pub step : StepOf C from flush n claim k
+
+-- the flags after a call are those that some flag before it leads to
+pub record Turned (C : ℕ) (flush : Bool) (n : ℕ) (claim : Claim) (old new : List ℕ) : Type 0 where
+  pub at : (k : ℕ) → Has new k ↔ Leads C flush n claim old k
 
 -- the flags are what the table leads to from nothing held
 pub record Reached (C : ℕ) (calls : List Told) (flags : List ℕ) : Type 0 where

@@ -6,7 +6,7 @@ ghost use mathlib.Core.Path.{_≡_};
 ghost use Prim.Native.Nat.{ℕ, _+_, _-_, _≤_, _<_};
 ghost use mathlib.Core.Logic.{_⊎_};
 ghost use lib.ListN.{length};
-ghost use Rattle.judge.specs.Flags.{Top, Adds, Lands, Storable, Between, landing, landEnd, directs, syncs, zeroEnd, halts, stopEnd};
+ghost use Rattle.judge.specs.Flags.{Top, Adds, Lands, Storable, Between, landing, landEnd, directs, syncs, zeroEnd, halts, stopEnd, Turned};
 
 // How many places lead up to the highest flag, 0 where none is set.
 fn top(flags: &[u8]) -> usize
@@ -157,4 +157,20 @@ fn stop_end(capacity: usize, flush: bool, n: usize, claim: Claim, high: usize) -
         return high;
     }
     0
+}
+
+// The flags after a call, from those before it.
+pub(crate) fn turn(old: [u8; 1025], capacity: usize, flush: bool, n: usize, claim: Claim) -> [u8; 1025]
+    requires { ⌜ (capacity ≤ 1024) × (n ≤ 16384) ⌝ }
+    ensures { λ r. ⌜ Turned capacity flush n claim old r ⌝ }
+{
+    let high = top(&old);
+    let lands = land_end(capacity, flush, n, claim);
+    let zero = zero_end(capacity, flush, n, claim, high);
+    let stop = stop_end(capacity, flush, n, claim, high);
+    let mut next = [0u8; 1025];
+    land(&old, &mut next, capacity, n, lands);
+    mark(&mut next, 0, zero);
+    mark(&mut next, 1, stop);
+    next
 }

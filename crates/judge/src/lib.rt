@@ -1,5 +1,6 @@
 // The judge: whether some finite list of card replies explains a trace.
 mod flags;
+mod walk;
 
 pub enum Verdict {
     Possible,
