@@ -1,11 +1,11 @@
 -- Sets of held counts as flags, and how a call's claim moves them. Cited by private contracts alone.
 -- Assumes nothing.
-use Prim.Native.Nat.{ℕ, _+_, _-_, _≤_, _<_}
+use Prim.Native.Nat.{ℕ, _+_, _-_, _≤_, _<_, min}
 use mathlib.Core.Path.{_≡_}
 use mathlib.Core.Logic.{_↔_, _⊎_}
-use mathlib.Core.Bool.{Bool}
+use mathlib.Core.Bool.{Bool, true, false}
 use mathlib.Core.List.{List}
-use lib.ListN.{length, getD}
+use lib.ListN.{length, take, drop, getD}
 use lib.Dec.{leb, ltb, eqb}
 use Rattle.laws.specs.Pick.{pick}
 use Rattle.trace.specs.declared.Claim.{Claim}
@@ -14,6 +14,8 @@ use Rattle.trace.specs.declared.Header.{Header}
 use Rattle.trace.specs.Calls.{Told}
 use Rattle.trace.specs.Trace.{trace, callsFrom}
 use Rattle.trace.specs.Claims.{claimed}
+use Rattle.judge.specs.declared.Matched.{Matched}
+use Rattle.judge.specs.declared.Matched.the-variants.{Agrees, Differs}
 use Rattle.judge.specs.Table.{WriteStep, FlushStep, Reach, pieces}
 
 -- the flag of k is set
@@ -113,3 +115,27 @@ pub record Reached (C : ℕ) (calls : List Told) (flags : List ℕ) : Type 0 whe
 -- if these are the calls from a place on, then P of them
 abbrev pub OfCalls : List ℕ → ℕ → ℕ → ℕ → (List Told → List ℕ → Type 0) → Type 0
 OfCalls t C count first P = (h : Header) (calls : List Told) (card : List ℕ) → callsFrom t C count first count 0 first ≡ trace h calls card → P calls card
+
+-- ---- the card against the answered bytes
+
+-- how many bytes a claim answers for: those of an ok, and no more than the slice has
+abbrev pub answers : Bool → ℕ → Claim → ℕ
+answers flush n (Ok m) = pick flush 0 (min m n)
+answers flush n Done = 0
+answers flush n Interrupted = 0
+answers flush n Zero = 0
+answers flush n (Error code) = 0
+
+-- whether two parts of a list are the same
+pub record Same (t : List ℕ) (a b n : ℕ) (r : Bool) : Type 0 where
+  pub yes-same : r ≡ true → take n (drop a t) ≡ take n (drop b t)
+  pub no-other : r ≡ false → take n (drop a t) ≡ take n (drop b t) → ⊥
+
+-- what the comparison says: the card begins the answered bytes, which are so many; or it does not
+abbrev pub Comparison : Matched → List Told → List ℕ → Type 0
+Comparison (Agrees answered) calls card = (answered ≡ length (pieces calls)) × (card ≡ take (length card) (pieces calls))
+Comparison Differs calls card = card ≡ take (length card) (pieces calls) → ⊥
+
+-- of the calls from a place on, with the card's place and length
+abbrev pub OfBytes : List ℕ → ℕ → ℕ → ℕ → ℕ → ℕ → (List Told → List ℕ → Type 0) → Type 0
+OfBytes t C count first place long P = (h : Header) (calls : List Told) (card : List ℕ) → callsFrom t C count first count 0 first ≡ trace h calls card → h .card ≡ place → h .length ≡ long → P calls card

@@ -7,3 +7,10 @@ pub enum Verdict {
     Impossible,
     Refused(usize),
 }
+
+// What comparing the card with the answered bytes finds: it begins them, and they are so many; or
+// it does not.
+pub(crate) enum Matched {
+    Agrees(usize),
+    Differs,
+}
