@@ -125,7 +125,7 @@ flush-done-ran : (script later : List ℕ) (w : World) → replies script w ≡ 
 unfolding flushBuf
 flush-done-ran script later w e r m =
     let run : sendFrom (replies script w) (w .held) (room w) 0 (w .used) (w .writes) ≡ sentBy Done (w .held) (w .used + length (sends (w .held))) (w .writes + length (sends (w .held))) =
-        ap (λ (l : List ℕ). sendFrom l (w .held) (room w) 0 (w .used) (w .writes)) e ∙ run-done (w .held) later (room w) (w .used) (w .writes) r m in
+    ap (λ (l : List ℕ). sendFrom l (w .held) (room w) 0 (w .used) (w .writes)) e ∙ run-done (w .held) later (room w) (w .used) (w .writes) r m in
     let g = flushed-ran script later (sends (w .held)) w _ Done (w .held) _ e run in
     record { answer = g .answer; held = g .held ∙ omega arith; left = g .left }
 
@@ -140,18 +140,18 @@ flush-zero-ran : (script later : List ℕ) (w : World) (k : ℕ) → replies scr
 unfolding flushBuf
 flush-zero-ran script later w k e a r m =
     let run : sendFrom (replies script w) (w .held) (room w) 0 (w .used) (w .writes) ≡ sentBy Zero k (w .used + length (sends k ++ (0 ∷ []))) (w .writes + length (sends k) + 1) =
-        ap (λ (l : List ℕ). sendFrom l (w .held) (room w) 0 (w .used) (w .writes)) e
-        ∙ run-zero k later (w .held) (room w) (w .used) (w .writes) a r m
-        ∙ ap (λ (j : ℕ). sentBy Zero k j (w .writes + length (sends k) + 1)) (long-more (sends k) 0 (w .used)) in
+    ap (λ (l : List ℕ). sendFrom l (w .held) (room w) 0 (w .used) (w .writes)) e
+    ∙ run-zero k later (w .held) (room w) (w .used) (w .writes) a r m
+    ∙ ap (λ (j : ℕ). sentBy Zero k j (w .writes + length (sends k) + 1)) (long-more (sends k) 0 (w .used)) in
     flushed-ran script later (sends k ++ (0 ∷ [])) w _ Zero k _ (e ∙ one-more (sends k) 0 later) run
 
 flush-failed-ran : (script later : List ℕ) (w : World) (k code : ℕ) → replies script w ≡ sends k ++ (fails code ∷ later) → 0 < code → k < w .held → k ≤ room w → k ≤ 65535 → Ran script (flushBuf script w) (error code) (w .held - k) later
 unfolding flushBuf
 flush-failed-ran script later w k code e p a r m =
     let run : sendFrom (replies script w) (w .held) (room w) 0 (w .used) (w .writes) ≡ sentBy (Failed code) k (w .used + length (sends k ++ (fails code ∷ []))) (w .writes + length (sends k) + 1) =
-        ap (λ (l : List ℕ). sendFrom l (w .held) (room w) 0 (w .used) (w .writes)) e
-        ∙ run-failed k code later (w .held) (room w) (w .used) (w .writes) p a r m
-        ∙ ap (λ (j : ℕ). sentBy (Failed code) k j (w .writes + length (sends k) + 1)) (long-more (sends k) (fails code) (w .used)) in
+    ap (λ (l : List ℕ). sendFrom l (w .held) (room w) 0 (w .used) (w .writes)) e
+    ∙ run-failed k code later (w .held) (room w) (w .used) (w .writes) p a r m
+    ∙ ap (λ (j : ℕ). sentBy (Failed code) k j (w .writes + length (sends k) + 1)) (long-more (sends k) (fails code) (w .used)) in
     flushed-ran script later (sends k ++ (fails code ∷ [])) w _ (Failed code) k _ (e ∙ one-more (sends k) (fails code) later) run
 
 -- one device write
@@ -258,16 +258,14 @@ module _ (script later : List ℕ) (w : World) (rest : List ℕ) (next-call : Wo
 -- a stopped flush on its replies
 flush-stopped-ran : (script later : List ℕ) (w : World) (said : Said) (h′ : ℕ) (s : Stopped said) → Claimable said → replies script w ≡ sends (w .held - h′) ++ (stoppedReply s ∷ later) → 0 < h′ → h′ ≤ w .held → w .held ≤ room w → w .held ≤ 65535 → Ran script (flushBuf script w) said h′ later × (isOk said ≡ false)
 unfolding stoppedReply Claimable
-flush-stopped-ran script later w said h′ (Stopped.none q) ok-code e a b r m =
-    (
-      ran-as script (flushBuf script w) zero-taken said (w .held - (w .held - h′)) h′ later (flush-zero-ran script later w (w .held - h′) e (omega arith) (omega arith) (omega arith)) (sym q) (omega arith),
-      ap isOk q,
-    )
-flush-stopped-ran script later w said h′ (Stopped.failed code q) ok-code e a b r m =
-    (
-      ran-as script (flushBuf script w) (error code) said (w .held - (w .held - h′)) h′ later (flush-failed-ran script later w (w .held - h′) code e (ok-code code q .0) (omega arith) (omega arith) (omega arith)) (sym q) (omega arith),
-      ap isOk q,
-    )
+flush-stopped-ran script later w said h′ (Stopped.none q) ok-code e a b r m = (
+  ran-as script (flushBuf script w) zero-taken said (w .held - (w .held - h′)) h′ later (flush-zero-ran script later w (w .held - h′) e (omega arith) (omega arith) (omega arith)) (sym q) (omega arith),
+  ap isOk q,
+)
+flush-stopped-ran script later w said h′ (Stopped.failed code q) ok-code e a b r m = (
+  ran-as script (flushBuf script w) (error code) said (w .held - (w .held - h′)) h′ later (flush-failed-ran script later w (w .held - h′) code e (ok-code code q .0) (omega arith) (omega arith) (omega arith)) (sym q) (omega arith),
+  ap isOk q,
+)
 
 cut-of : (most : ℕ) (rest : List ℕ) → atMost most (next (cut ∷ rest)) ≡ Interrupted
 unfolding atMost next replyOf
@@ -327,9 +325,9 @@ module _ (script later : List ℕ) (w : World) (s : List ℕ) (said : Said) (h�
   can-write (WriteStep.refilled a b q z) e =
       subst (λ (c : Called). Ran script c said h′ later) (sym (write-flushes script w s fit b))
       (then-ran script later w later (λ v. placed (ok (length s)) (λ u. deviceWrite script u s) v s) said h′ fit (flush-done-ran script later w e (omega arith) few)
-        (λ v p f n l.
-          let same = same-capacity script w v fit p n in
-          subst (λ (c : Called). Ran script c said h′ later) (sym (to-stored v (omega arith))) (record { answer = sym q; held = omega arith; left = l })))
+      (λ v p f n l.
+      let same = same-capacity script w v fit p n in
+      subst (λ (c : Called). Ran script c said h′ later) (sym (to-stored v (omega arith))) (record { answer = sym q; held = omega arith; left = l })))
     where
       to-stored : (v : World) → length s < length (v .storage) → placed (ok (length s)) (λ u. deviceWrite script u s) v s ≡ stored (ok (length s)) v s
       to-stored v h = placed-stored (ok (length s)) (λ u. deviceWrite script u s) v s h
@@ -344,10 +342,10 @@ module _ (script later : List ℕ) (w : World) (s : List ℕ) (said : Said) (h�
       by (no h) =
           subst (λ (c : Called). Ran script c said h′ later) (sym (write-flushes script w s fit (omega arith)))
           (then-ran script later w (directReply d ∷ later) (λ v. placed (ok (length s)) (λ u. deviceWrite script u s) v s) said h′ fit (flush-done-ran script (directReply d ∷ later) w (in-order (sends (w .held)) (directReply d) (replies script w) later e) (omega arith) few)
-            (λ v p f n l.
-              let same = same-capacity script w v fit p n in
-              subst (λ (c : Called). Ran script c said h′ later) (sym (placed-direct (ok (length s)) (λ u. deviceWrite script u s) v s (omega arith)))
-              (ran-as script (deviceWrite script v s) said said (v .held) h′ later (direct-ran script later v s said d code l (same-room script w v fit p n (length s) roomy) short) refl (n ∙ sym z))))
+          (λ v p f n l.
+          let same = same-capacity script w v fit p n in
+          subst (λ (c : Called). Ran script c said h′ later) (sym (placed-direct (ok (length s)) (λ u. deviceWrite script u s) v s (omega arith)))
+          (ran-as script (deviceWrite script v s) said said (v .held) h′ later (direct-ran script later v s said d code l (same-room script w v fit p n (length s) roomy) short) refl (n ∙ sym z))))
   can-write (WriteStep.stopped a st lo hi) e =
       let r = flush-stopped-ran script later w said h′ st code (in-order (sends (w .held - h′)) (stoppedReply st) (replies script w) later e) lo hi (omega arith) few in
       subst (λ (c : Called). Ran script c said h′ later) (sym (write-flushes script w s fit a))

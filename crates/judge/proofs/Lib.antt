@@ -6,3 +6,4 @@ pub mod Runs
 pub mod Sets
 pub mod Turns
 pub mod Walks
+pub mod Verdicts

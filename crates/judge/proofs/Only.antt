@@ -63,10 +63,10 @@ only-write script w s fit =
     (λ h l. WriteStep.stored l h refl refl)
     (λ z l. WriteStep.direct l (write-direct script w s) (write-keeps script w s ∙ z))
     (λ v q f z l.
-      let same : length (v .storage) ≡ length (w .storage) = rw q at (k .storage-long) in
-      placed-by (ok (length s)) (λ u. deviceWrite script u s) v s (λ (c : Called). WriteStep (length (w .storage)) (w .held) (length s) (c .answer) (c .world .held))
-      (λ m. WriteStep.direct (omega arith) (write-direct script v s) (write-keeps script v s ∙ z))
-      (λ m. WriteStep.refilled (omega arith) l refl (omega arith)))
+    let same : length (v .storage) ≡ length (w .storage) = rw q at (k .storage-long) in
+    placed-by (ok (length s)) (λ u. deviceWrite script u s) v s (λ (c : Called). WriteStep (length (w .storage)) (w .held) (length s) (c .answer) (c .world .held))
+    (λ m. WriteStep.direct (omega arith) (write-direct script v s) (write-keeps script v s ∙ z))
+    (λ m. WriteStep.refilled (omega arith) l refl (omega arith)))
     (λ e l. WriteStep.stopped l (flush-stopped script w e) (k .stopped e) (k .held-most))
 
 pub only-flush : (script : List ℕ) (w : World) → Fit script w → FlushStep (w .held) (flush script w .answer) (flush script w .world .held)

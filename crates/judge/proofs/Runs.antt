@@ -27,14 +27,9 @@ use Rattle.trace.specs.Calls.{Told, wrote, flushed, written}
 use Rattle.trace.proofs.Within.{Fair}
 use Rattle.trace.proofs.Rests.{FairSaid, FairTold, AllFair}
 use Rattle.judge.specs.Judge.{calledBy, claim, Explains, Numbers, Possible}
-use Rattle.judge.specs.Table.{Direct, Synced, Stopped, WriteStep, FlushStep, Step, Reach, piece, pieces}
+use Rattle.judge.specs.Table.{Direct, Synced, Stopped, WriteStep, FlushStep, Step, Reach, piece, pieces, Left, Goes}
 use Rattle.judge.proofs.Only.{only-write, only-flush}
 use Rattle.judge.proofs.Can.{sends, cut, fails, directReply, syncedReply, stoppedReply, writeReplies, flushReplies, Claimable, Ran, can-write, can-flush}
-
--- the card is l without its last e bytes
-pub record Left (e : ℕ) (l card : List ℕ) : Type 0 where
-  pub fits : e ≤ length l
-  pub is : card ≡ take (length l - e) l
 
 -- ---- one call
 
@@ -65,11 +60,6 @@ medium-left script w i =
 
 -- ---- what explains a trace goes by the table
 
-pub record Goes (C h : ℕ) (calls : List Told) (l card : List ℕ) : Type 0 where
-  pub end : ℕ
-  pub reach : Reach C h calls end
-  pub left : Left end l card
-
 pub explained : (script : List ℕ) (w : World) (calls : List Told) (card : List ℕ) (C : ℕ) → length (w .storage) ≡ C → In script w → Explains script w calls card → Goes C (w .held) calls (ledger w ++ pieces calls) card
 unfolding Explains Reach pieces
 explained script w [] card C pc i x =
@@ -78,8 +68,8 @@ explained script w [] card C pc i x =
       end = w .held;
       reach = refl;
       left =
-        subst (λ (l : List ℕ). Left (w .held) l card) (sym (append-nil (ledger w)))
-        (record { fits = omega arith; is = sym x ∙ sym (medium-left script w i) });
+          subst (λ (l : List ℕ). Left (w .held) l card) (sym (append-nil (ledger w)))
+          (record { fits = omega arith; is = sym x ∙ sym (medium-left script w i) });
     }
 explained script w (call ∷ calls) card C pc i x =
     let v = calledBy script w call .world in
@@ -198,20 +188,19 @@ explains script w C h (call ∷ calls) card e r f d l =
     let v-in = moved-in script w v (piece call) m in
     let same : ledger w ++ (piece call ++ pieces calls) ≡ ledger v ++ pieces calls = sym (append-assoc (ledger w) (piece call) (pieces calls)) ∙ ap (λ (x : List ℕ). x ++ pieces calls) (sym (m .bytes)) in
     let grown : v .out + v .held ≡ w .out + w .held + length (piece call) = sym (ledger-long script v v-in) ∙ ap length (m .bytes) ∙ length-append (ledger w) (piece call) ∙ ap (λ (k : ℕ). k + length (piece call)) (ledger-long script w (d .inside)) in
-    let few = piece-most call calls in
-    (
+    let few = piece-most call calls in (
       ran .answer,
       explains script v C (r .0) calls card e (r .1 .1) (f .1)
-      (record {
-        held-is = ran .held;
-        capacity-is = m .storage-long ∙ d .capacity-is;
-        inside = v-in;
-        replies-are = ran .left;
-        roomy = omega (arith, grown, few, d .roomy, m .medium-long);
-        short = omega (arith, few, d .short);
-        small = d .small;
-      })
-      (subst (λ (x : List ℕ). Left e x card) same l),
+          (record {
+            held-is = ran .held;
+            capacity-is = m .storage-long ∙ d .capacity-is;
+            inside = v-in;
+            replies-are = ran .left;
+            roomy = omega (arith, grown, few, d .roomy, m .medium-long);
+            short = omega (arith, few, d .short);
+            small = d .small;
+          })
+          (subst (λ (x : List ℕ). Left e x card) same l),
     )
 
 -- ---- the replies are numbers of a script
@@ -289,15 +278,15 @@ goes-possible C calls card f small short g =
       numbers = script-numbers C 0 calls (g .end) (g .reach) f small (omega arith) short;
       room = omega (arith, long);
       explains =
-        explains script (new (replicate C 0) medium) C 0 calls card (g .end) (g .reach) f
-        (record {
-          held-is = refl;
-          capacity-is = length-replicate C 0;
-          inside = record { held = omega arith; out = omega arith; used = omega arith };
-          replies-are = refl;
-          roomy = omega (arith, long);
-          short = short;
-          small = small;
-        })
-        (g .left);
+          explains script (new (replicate C 0) medium) C 0 calls card (g .end) (g .reach) f
+          (record {
+            held-is = refl;
+            capacity-is = length-replicate C 0;
+            inside = record { held = omega arith; out = omega arith; used = omega arith };
+            replies-are = refl;
+            roomy = omega (arith, long);
+            short = short;
+            small = small;
+          })
+          (g .left);
     }

@@ -32,11 +32,10 @@ adds-as old new P Q a e =
 pub adds-one : (old new : List ℕ) (P Q : ℕ → Type 0) (i : ℕ) → Adds old new P → i < length new → ((k : ℕ) → (P k ⊎ (k ≡ i)) ↔ Q k) → Adds old (set new i 1) Q
 adds-one old new P Q i a h e =
     record {
-      at = λ k.
-        (
-          (λ x. ⊎-elim (λ y. ⊎-elim (λ z. inl z) (λ p. inr (e k .0 (inl p))) (a .at k .0 y)) (λ y. inr (e k .0 (inr y))) (has-set new i k h .0 x)),
-          ⊎-elim (λ y. has-set new i k h .1 (inl (a .at k .1 (inl y)))) (λ q. ⊎-elim (λ p. has-set new i k h .1 (inl (a .at k .1 (inr p)))) (λ y. has-set new i k h .1 (inr y)) (e k .1 q)),
-        );
+      at = λ k. (
+        (λ x. ⊎-elim (λ y. ⊎-elim (λ z. inl z) (λ p. inr (e k .0 (inl p))) (a .at k .0 y)) (λ y. inr (e k .0 (inr y))) (has-set new i k h .0 x)),
+        ⊎-elim (λ y. has-set new i k h .1 (inl (a .at k .1 (inl y)))) (λ q. ⊎-elim (λ p. has-set new i k h .1 (inl (a .at k .1 (inr p)))) (λ y. has-set new i k h .1 (inr y)) (e k .1 q)),
+      );
     }
 
 -- ---- the highest flag
@@ -95,7 +94,8 @@ land-more C n h at old l₀ l a q x b =
     adds-one l₀ l (Lands C n h old) (Lands C n (h + 1) old) at a b
     (λ k. (
       ⊎-elim (λ p. record { from = p .from; below = omega (arith, p .below); set = p .set; lands = p .lands }) (λ e. record { from = h; below = omega arith; set = record { is = x }; lands = sym q ∙ sym e }),
-      (λ p. by k p (ℕ-discrete (p .from) h))))
+      (λ p. by k p (ℕ-discrete (p .from) h)),
+    ))
   where
     by : (k : ℕ) (p : Lands C n (h + 1) old k) → Dec (p .from ≡ h) → Lands C n h old k ⊎ (k ≡ at)
     by k p (yes e) = inr (sym (p .lands) ∙ ap (λ (j : ℕ). landing C n j) e ∙ sym q)
@@ -106,7 +106,8 @@ land-skip C n h old l₀ l a x =
     adds-as l₀ l (Lands C n h old) (Lands C n (h + 1) old) a
     (λ k. (
       (λ p. record { from = p .from; below = omega (arith, p .below); set = p .set; lands = p .lands }),
-      (λ p. by k p (ℕ-discrete (p .from) h))))
+      (λ p. by k p (ℕ-discrete (p .from) h)),
+    ))
   where
     by : (k : ℕ) (p : Lands C n (h + 1) old k) → Dec (p .from ≡ h) → Lands C n h old k
     by k p (yes e) = absurd (x (sym (ap (λ (j : ℕ). getD old j 0) e) ∙ p .set .is))

@@ -261,28 +261,27 @@ pub turned : (C : ℕ) (flush : Bool) (n : ℕ) (claim : Claim) (old a b c : Lis
 unfolding Kinds
 turned C flush n claim old a b c high le ze se l t pl pz ps xa xb xc =
     record {
-      at = λ k.
-        (
-          (λ x.
+      at = λ k. (
+        (λ x.
             ⊎-elim
-              (λ y.
-                ⊎-elim
-                  (λ z.
-                    ⊎-elim (λ u. absurd (none-set 1025 k u)) (λ u. land-leads C flush n claim old k (subst (λ (m : ℕ). Lands C n m old k) pl u)) (xa .at k .0 z))
-                  (λ z. zero-leads C flush n claim old high k t (subst (λ (m : ℕ). Between 0 m k) pz z))
-                  (xb .at k .0 y))
-              (λ y. stop-leads C flush n claim old high k t (subst (λ (m : ℕ). Between 1 m k) ps y))
-              (xc .at k .0 x)),
-          (λ x.
+            (λ y.
             ⊎-elim
-              (λ y.
-                xc .at k .1
-                  (inl
-                    (xb .at k .1
-                      (⊎-elim (λ z. inl (xa .at k .1 (inr (subst (λ (m : ℕ). Lands C n m old k) (sym pl) z)))) (λ z. inr (subst (λ (m : ℕ). Between 0 m k) (sym pz) z)) y))))
-              (λ y. xc .at k .1 (inr (subst (λ (m : ℕ). Between 1 m k) (sym ps) y)))
-              (leads-kinds C flush n claim old high k (x .from) l t (x .set) (x .step))),
-        );
+            (λ z.
+            ⊎-elim (λ u. absurd (none-set 1025 k u)) (λ u. land-leads C flush n claim old k (subst (λ (m : ℕ). Lands C n m old k) pl u)) (xa .at k .0 z))
+            (λ z. zero-leads C flush n claim old high k t (subst (λ (m : ℕ). Between 0 m k) pz z))
+            (xb .at k .0 y))
+            (λ y. stop-leads C flush n claim old high k t (subst (λ (m : ℕ). Between 1 m k) ps y))
+            (xc .at k .0 x)),
+        (λ x.
+            ⊎-elim
+            (λ y.
+            xc .at k .1
+            (inl
+            (xb .at k .1
+            (⊎-elim (λ z. inl (xa .at k .1 (inr (subst (λ (m : ℕ). Lands C n m old k) (sym pl) z)))) (λ z. inr (subst (λ (m : ℕ). Between 0 m k) (sym pz) z)) y))))
+            (λ y. xc .at k .1 (inr (subst (λ (m : ℕ). Between 1 m k) (sym ps) y)))
+            (leads-kinds C flush n claim old high k (x .from) l t (x .set) (x .step))),
+      );
     }
 
 -- ---- the ends are within the flags

@@ -72,15 +72,14 @@ begins t C count first =
     record {
       few = omega arith;
       here = λ h calls card e.
-        record {
-          rest = calls;
-          is = e;
-          same = λ k.
-            (
+          record {
+            rest = calls;
+            is = e;
+            same = λ k. (
               (λ f. subst (λ (n : ℕ). Reach C n calls k) (one-flag (f .held) (f .set)) (f .reach)),
               (λ r. record { held = 0; set = record { is = refl }; reach = r }),
             );
-        };
+          };
     }
 
 pub again : (t : List ℕ) (C count first left total at : ℕ) (flags new : List ℕ) (call : TracedCall) → Inv t C count first left total at flags → callAt t total at ≡ Call call → Turned C (call .flush) (call .length) (call .claim) flags new → 0 < left → Inv t C count first (left - 1) (total + call .length) (call .next) new
@@ -90,31 +89,30 @@ again t C count first left total at flags new call i q tu lt =
     record {
       few = omega (arith, i .few, w .room);
       here = λ h calls card e.
-        let x = i .here h calls card e in
-        let n = next t C count first left total at h (x .rest) card (x .is) call q lt in
-        record {
-          rest = n .later;
-          is = n .goes;
-          same = λ k.
-            (
+          let x = i .here h calls card e in
+          let n = next t C count first left total at h (x .rest) card (x .is) call q lt in
+          record {
+            rest = n .later;
+            is = n .goes;
+            same = λ k. (
               (λ f.
-                let lead = tu .at (f .held) .0 (f .set) in
-                x .same k .0
+                  let lead = tu .at (f .held) .0 (f .set) in
+                  x .same k .0
                   (record {
                     held = lead .from;
                     set = lead .set;
                     reach = subst (λ (l : List Told). Reach C (lead .from) l k) (sym (n .front)) (f .held, (step-told t C (lead .from) (f .held) call (w .part) .0 (lead .step), f .reach));
                   })),
               (λ r.
-                let f = x .same k .1 r in
-                let go : (h′ : ℕ) × (Step C (f .held) (told t call) h′ × Reach C h′ (n .later) k) = subst (λ (l : List Told). Reach C (f .held) l k) (n .front) (f .reach) in
-                record {
-                  held = go .0;
-                  set = tu .at (go .0) .1 (record { from = f .held; set = f .set; step = step-told t C (f .held) (go .0) call (w .part) .1 (go .1 .0) });
-                  reach = go .1 .1;
-                }),
+                  let f = x .same k .1 r in
+                  let go : (h′ : ℕ) × (Step C (f .held) (told t call) h′ × Reach C h′ (n .later) k) = subst (λ (l : List Told). Reach C (f .held) l k) (n .front) (f .reach) in
+                  record {
+                    held = go .0;
+                    set = tu .at (go .0) .1 (record { from = f .held; set = f .set; step = step-told t C (f .held) (go .0) call (w .part) .1 (go .1 .0) });
+                    reach = go .1 .1;
+                  }),
             );
-        };
+          };
     }
 
 pub ends : (t : List ℕ) (C count first left total at : ℕ) (flags : List ℕ) → Inv t C count first left total at flags → left ≤ 0 → OfCalls t C count first (λ calls card. Reached C calls flags)
@@ -123,14 +121,13 @@ ends t C count first left total at flags i z h calls card e =
     let x = i .here h calls card e in
     let none = last t C count first left total at h (x .rest) card (x .is) z in
     record {
-      at = λ k.
-        (
-          (λ s. x .same k .0 (record { held = k; set = s; reach = subst (λ (l : List Told). Reach C k l k) (sym none) refl })),
-          (λ r.
+      at = λ k. (
+        (λ s. x .same k .0 (record { held = k; set = s; reach = subst (λ (l : List Told). Reach C k l k) (sym none) refl })),
+        (λ r.
             let f = x .same k .1 r in
             let q : f .held ≡ k = subst (λ (l : List Told). Reach C (f .held) l k) none (f .reach) in
             subst (λ (j : ℕ). Has flags j) q (f .set)),
-        );
+      );
     }
 
 pub never : (t : List ℕ) (C count first left total at place : ℕ) (flags : List ℕ) (P : List Told → List ℕ → Type 0) → Inv t C count first left total at flags → callAt t total at ≡ Fault place → 0 < left → OfCalls t C count first P
@@ -166,25 +163,23 @@ bytes-begin t C count first place long =
       less = omega arith;
       within = omega arith;
       here = λ h calls card e pp pl.
-        record {
-          rest = calls;
-          is = e;
-          sum = omega arith;
-          same =
-            (
+          record {
+            rest = calls;
+            is = e;
+            sum = omega arith;
+            same = (
               (λ x. record { is = x ∙ ap (λ (k : ℕ). take k (pieces calls)) (sym (sub-zero (length card))) }),
               (λ x. x .is ∙ ap (λ (k : ℕ). take k (pieces calls)) (sub-zero (length card))),
             );
-        };
+          };
     }
 
 -- a list in two parts is another in two parts of the same lengths exactly when the parts are equal
 two-parts : (a b c d : List ℕ) → length a ≡ length c → (a ++ b ≡ c ++ d) ↔ ((a ≡ c) × (b ≡ d))
-two-parts a b c d l =
-    (
-      (λ e. (sym (take-at a b (length c) l) ∙ ap (λ (x : List ℕ). take (length c) x) e ∙ take-at c d (length c) refl, sym (drop-at a b (length c) l) ∙ ap (λ (x : List ℕ). drop (length c) x) e ∙ drop-at c d (length c) refl)),
-      (λ p. ap₂ (λ (x y : List ℕ). x ++ y) (p .0) (p .1)),
-    )
+two-parts a b c d l = (
+  (λ e. (sym (take-at a b (length c) l) ∙ ap (λ (x : List ℕ). take (length c) x) e ∙ take-at c d (length c) refl, sym (drop-at a b (length c) l) ∙ ap (λ (x : List ℕ). drop (length c) x) e ∙ drop-at c d (length c) refl)),
+  (λ p. ap₂ (λ (x y : List ℕ). x ++ y) (p .0) (p .1)),
+)
 
 -- one piece more: as much of it as the card still has must be on the card
 piece-agrees : (c p q : List ℕ) (m : ℕ) → m ≡ min (length p) (length c) → (c ≡ take (length c) (p ++ q)) ↔ ((take m c ≡ take m p) × (drop m c ≡ take (length c - m) q))
@@ -198,11 +193,10 @@ piece-agrees c p q m e = by (decLe (length p) (length c))
         let front : take (length c) (p ++ q) ≡ p ++ take (length c - length p) q = ap (λ (k : ℕ). take k (p ++ q)) (sym split) ∙ take-append-add p q (length c - length p) in
         let back : take (length c - m) q ≡ take (length c - length p) q = ap (λ (k : ℕ). take (length c - k) q) pm in
         let long : length (take m c) ≡ length p = length-take-le m c (omega arith) ∙ pm in
-        let both = two-parts (take m c) (drop m c) p (take (length c - length p) q) long in
-        (
+        let both = two-parts (take m c) (drop m c) p (take (length c - length p) q) long in (
           (λ x.
-            let y = both .0 (take-append-drop m c ∙ x ∙ front) in
-            (y .0 ∙ sym whole, y .1 ∙ sym back)),
+              let y = both .0 (take-append-drop m c ∙ x ∙ front) in
+              (y .0 ∙ sym whole, y .1 ∙ sym back)),
           (λ x. sym (take-append-drop m c) ∙ both .1 (x .0 ∙ whole, x .1 ∙ back) ∙ sym front),
         )
     by (no h) =
@@ -210,8 +204,7 @@ piece-agrees c p q m e = by (decLe (length p) (length c))
         let all : take m c ≡ c = take-all m c (omega arith) in
         let front : take (length c) (p ++ q) ≡ take m p = take-append-le (length c) p q (omega arith) ∙ ap (λ (k : ℕ). take k p) (sym cm) in
         let nothing : drop m c ≡ [] = drop-of-length-le c {i = m} (omega arith) in
-        let zero-left : length c - m ≡ 0 = omega arith in
-        (
+        let zero-left : length c - m ≡ 0 = omega arith in (
           (λ x. (all ∙ x ∙ front, nothing ∙ sym (ap (λ (k : ℕ). take k q) zero-left))),
           (λ x. sym all ∙ x .0 ∙ sym front),
         )
@@ -311,18 +304,16 @@ module _ (t : List ℕ) (C count first place long left total at matched answered
       let in-trace : take part p ≡ take part (drop (call .start) t) = piece-stands t call (w .part) part few in
       let moved : drop part c ≡ drop (matched + part) card = drop-drop part matched card in
       let less : length c - part ≡ length card - (matched + part) = less-more (length c) (length card) matched part c-long in
-      let rest-is : pieces (x .rest) ≡ p ++ pieces n = ap pieces front in
-      (
+      let rest-is : pieces (x .rest) ≡ p ++ pieces n = ap pieces front in (
         (λ e.
-          let a = x .same .0 e in
-          let b = agree .0 (a .is ∙ ap₂ (λ (k : ℕ) (l : List ℕ). take k l) (sym c-long) rest-is) in
-          (sym in-trace ∙ sym (b .0) ∙ on-card, record { is = sym moved ∙ b .1 ∙ ap (λ (k : ℕ). take k (pieces n)) less })),
+            let a = x .same .0 e in
+            let b = agree .0 (a .is ∙ ap₂ (λ (k : ℕ) (l : List ℕ). take k l) (sym c-long) rest-is) in
+            (sym in-trace ∙ sym (b .0) ∙ on-card, record { is = sym moved ∙ b .1 ∙ ap (λ (k : ℕ). take k (pieces n)) less })),
         (λ y.
-          let b = agree .1 (on-card ∙ sym (y .0) ∙ sym in-trace, moved ∙ y .1 .is ∙ ap (λ (k : ℕ). take k (pieces n)) (sym less)) in
-          x .same .1 (record { is = b ∙ ap₂ (λ (k : ℕ) (l : List ℕ). take k l) c-long (sym rest-is) })),
+            let b = agree .1 (on-card ∙ sym (y .0) ∙ sym in-trace, moved ∙ y .1 .is ∙ ap (λ (k : ℕ). take k (pieces n)) (sym less)) in
+            x .same .1 (record { is = b ∙ ap₂ (λ (k : ℕ) (l : List ℕ). take k l) c-long (sym rest-is) })),
       )
     where
-
       less-more : (a b m k : ℕ) → a ≡ b - m → a - k ≡ b - (m + k)
       less-more a b m k e = omega arith
 
@@ -345,16 +336,16 @@ module _ (t : List ℕ) (C count first place long left total at matched answered
         less = omega (arith, i .less, most);
         within = in-card part (answers (call .flush) (call .length) (call .claim)) long matched pp (i .within) .1;
         here = λ h calls card e hp hl.
-          let x = i .here h calls card e hp hl in
-          let n = next t C count first left total at h (x .rest) card (x .is) call q lt in
-          let d = decides h calls card x hp hl (n .later) (n .front) in
-          let grown : length (pieces (x .rest)) ≡ length (piece (told t call)) + length (pieces (n .later)) = ap (λ (l : List Told). length (pieces l)) (n .front) ∙ length-append (piece (told t call)) (pieces (n .later)) in
-          record {
-            rest = n .later;
-            is = n .goes;
-            sum = omega (arith, x .sum, grown, piece-long t call (w .part));
-            same = ((λ y. d .0 y .1), (λ y. d .1 (same-bytes, y)));
-          };
+            let x = i .here h calls card e hp hl in
+            let n = next t C count first left total at h (x .rest) card (x .is) call q lt in
+            let d = decides h calls card x hp hl (n .later) (n .front) in
+            let grown : length (pieces (x .rest)) ≡ length (piece (told t call)) + length (pieces (n .later)) = ap (λ (l : List Told). length (pieces l)) (n .front) ∙ length-append (piece (told t call)) (pieces (n .later)) in
+            record {
+              rest = n .later;
+              is = n .goes;
+              sum = omega (arith, x .sum, grown, piece-long t call (w .part));
+              same = ((λ y. d .0 y .1), (λ y. d .1 (same-bytes, y)));
+            };
       }
 
   pub bytes-differ : (take part (drop (call .start) t) ≡ take part (drop (place + matched) t) → ⊥) → OfBytes t C count first place long (λ calls card. card ≡ take (length card) (pieces calls) → ⊥)
@@ -372,8 +363,7 @@ module _ (t : List ℕ) (C count first place long left total at matched answered
       let none = last t C count first left total at h (x .rest) card (x .is) z in
       let r = rest t C count first left total at h (x .rest) card (x .is) in
       let no-pieces : pieces (x .rest) ≡ [] = ap pieces none in
-      let card-long : length card ≤ long = rw (r .card-is) (rw (length-take (h .length) (drop (h .card) t)) (omega (arith, hl))) in
-      (
+      let card-long : length card ≤ long = rw (r .card-is) (rw (length-take (h .length) (drop (h .card) t)) (omega (arith, hl))) in (
         omega (arith, x .sum, ap length no-pieces),
         x .same .1 (record { is = drop-of-length-le card {i = matched} (omega arith) ∙ sym (ap (λ (l : List ℕ). take (length card - matched) l) no-pieces ∙ take-nil (length card - matched)) }),
       )

@@ -16,7 +16,9 @@ use Rattle.trace.specs.Trace.{trace, callsFrom}
 use Rattle.trace.specs.Claims.{claimed}
 use Rattle.judge.specs.declared.Matched.{Matched}
 use Rattle.judge.specs.declared.Matched.the-variants.{Agrees, Differs}
-use Rattle.judge.specs.Table.{WriteStep, FlushStep, Reach, pieces}
+use Rattle.judge.specs.declared.Verdict.{Verdict}
+use Rattle.judge.specs.declared.Verdict.the-variants.{Possible, Impossible, Refused}
+use Rattle.judge.specs.Table.{WriteStep, FlushStep, Reach, pieces, Goes}
 
 -- the flag of k is set
 pub record Has (flags : List ℕ) (k : ℕ) : Type 0 where
@@ -139,3 +141,9 @@ Comparison Differs calls card = card ≡ take (length card) (pieces calls) → �
 -- of the calls from a place on, with the card's place and length
 abbrev pub OfBytes : List ℕ → ℕ → ℕ → ℕ → ℕ → ℕ → (List Told → List ℕ → Type 0) → Type 0
 OfBytes t C count first place long P = (h : Header) (calls : List Told) (card : List ℕ) → callsFrom t C count first count 0 first ≡ trace h calls card → h .card ≡ place → h .length ≡ long → P calls card
+
+-- the verdict by the table
+abbrev pub Ruled : ℕ → Verdict → List Told → List ℕ → Type 0
+Ruled C Possible calls card = Goes C 0 calls (pieces calls) card
+Ruled C Impossible calls card = Goes C 0 calls (pieces calls) card → ⊥
+Ruled C (Refused place) calls card = ⊥

@@ -1,9 +1,9 @@
 -- What the judge walks by; its promise cites none of this. The table: from h held bytes, which held counts a call can leave with which answer. C is the capacity, n the slice's length.
 -- Assumes nothing.
-use Prim.Native.Nat.{ℕ, _+_, _≤_, _<_}
+use Prim.Native.Nat.{ℕ, _+_, _-_, _≤_, _<_}
 use mathlib.Core.Path.{_≡_}
 use mathlib.Core.List.{List, [], _∷_, _++_}
-use lib.ListN.{length}
+use lib.ListN.{length, take}
 use Rattle.card.specs.Answers.{Said, ok, done, interrupted, zero-taken, error}
 use Rattle.writer.specs.Ledger.{accepted}
 use Rattle.trace.specs.Calls.{Told, wrote, flushed}
@@ -53,3 +53,14 @@ piece (flushed said) = []
 unfoldable pub pieces : List Told → List ℕ
 pieces [] = []
 pieces (call ∷ calls) = piece call ++ pieces calls
+
+-- the card is l without its last e bytes
+pub record Left (e : ℕ) (l card : List ℕ) : Type 0 where
+  pub fits : e ≤ length l
+  pub is : card ≡ take (length l - e) l
+
+-- the table leads from h to a count at which the card is what is left of l
+pub record Goes (C h : ℕ) (calls : List Told) (l card : List ℕ) : Type 0 where
+  pub end : ℕ
+  pub reach : Reach C h calls end
+  pub left : Left end l card

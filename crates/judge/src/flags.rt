@@ -1,7 +1,6 @@
 // A set of held counts, a flag for each of 0 to 1,024, and how a traced call moves it.
 use card::bytes;
 use trace::Claim;
-
 ghost use mathlib.Core.Path.{_≡_};
 ghost use Prim.Native.Nat.{ℕ, _+_, _-_, _≤_, _<_};
 ghost use mathlib.Core.Logic.{_⊎_};
@@ -160,7 +159,13 @@ fn stop_end(capacity: usize, flush: bool, n: usize, claim: Claim, high: usize) -
 }
 
 // The flags after a call, from those before it.
-pub(crate) fn turn(old: [u8; 1025], capacity: usize, flush: bool, n: usize, claim: Claim) -> [u8; 1025]
+pub(crate) fn turn(
+    old: [u8; 1025],
+    capacity: usize,
+    flush: bool,
+    n: usize,
+    claim: Claim,
+) -> [u8; 1025]
     requires { ⌜ (capacity ≤ 1024) × (n ≤ 16384) ⌝ }
     ensures { λ r. ⌜ Turned capacity flush n claim old r ⌝ }
 {

@@ -1,11 +1,10 @@
 // The walks over a trace's calls. Neither keeps a call.
+use crate::Matched;
+use crate::flags;
 use card::bytes;
 use trace::CallRead;
 use trace::Claim;
 use trace::calls;
-use crate::Matched;
-use crate::flags;
-
 ghost use mathlib.Core.Path.{_≡_};
 ghost use Prim.Native.Nat.{ℕ, _+_, _-_, _≤_, _<_};
 ghost use mathlib.Core.List.{List};
@@ -74,7 +73,14 @@ fn same_bytes(t: &[u8], a: usize, b: usize, n: usize) -> bool
 }
 
 // Whether the card, `long` bytes from `place` on, begins the bytes that the claims answer for.
-pub(crate) fn compare(trace: &[u8], capacity: usize, count: usize, first: usize, place: usize, long: usize) -> Matched
+pub(crate) fn compare(
+    trace: &[u8],
+    capacity: usize,
+    count: usize,
+    first: usize,
+    place: usize,
+    long: usize,
+) -> Matched
     requires { ⌜ place + long ≤ length (now trace) ⌝ }
     ensures { λ r. ⌜ OfBytes (now (trace .entry)) capacity count first place long (Comparison r) ⌝ }
 {

@@ -27,7 +27,7 @@ landing-of-requires : tie.Need-landing-of-requires Inv-loop μ-loop
 landing-of-requires c κs = (omega (arith, c .before .before .before .before .before .before .pre .within, c .before .before .before .before .before .before .pre .few), c .before .before .before .before .before .before .pre .short)
 
 slice-write-new : tie.Need-slice-write-new Inv-loop μ-loop
-slice-write-new c = 
+slice-write-new c =
     let h = landing-most _ _ _ _ (c .landing-of .ensures) (c .before .before .before .before .before .before .before .pre .fits (omega arith)) in
     omega (arith, h, c .before .before .before .before .before .before .before .pre .room)
 
@@ -35,7 +35,7 @@ loop-less : tie.Need-loop-less Inv-loop μ-loop
 loop-less c = omega arith
 
 loop-again : tie.Need-loop-again Inv-loop μ-loop
-loop-again c = 
+loop-again c =
     let h = landing-most _ _ _ _ (c .landing-of .ensures) (c .before .before .before .before .before .before .before .pre .fits (omega arith)) in
     (omega arith, (simp length-set (c .before .before .before .before .loop .inv .1 .0), land-more _ _ _ _ _ _ _ (c .before .before .before .before .loop .inv .1 .1) (c .landing-of .ensures) (c .before .if1 .taken) (omega (arith, h, c .before .before .before .before .before .before .before .pre .room))))
 
@@ -49,7 +49,7 @@ same-length : tie.Need-same-length Inv-loop μ-loop
 same-length c = c .before .loop .inv .1 .0
 
 returns : tie.Need-returns Inv-loop μ-loop
-returns c = 
+returns c =
     let e : c .before .loop .i ≡ c .before .before .before .before .args .most = omega arith in
     rw (← e) (c .before .loop .inv .1 .1)
 

@@ -29,7 +29,7 @@ slice-aggregate-land-2 : tie.Need-slice-aggregate-land-2
 slice-aggregate-land-2 c = search needs
 
 land-requires : tie.Need-land-requires
-land-requires c κs = 
+land-requires c κs =
     let l : length (c .before .before .before .before .before .before .before .args .t1) ≡ 1025 = search needs in
     storable _ _ _ _ (c .before .before .before .before .before .before .before .args .flush) (c .before .before .before .before .before .before .before .args .claim) (c .before .before .before .before .land-end .ensures) l (c .before .before .before .before .before .before .before .pre .0) (c .before .before .before .before .before .before .before .pre .1)
 
@@ -37,7 +37,7 @@ slice-aggregate-mark : tie.Need-slice-aggregate-mark
 slice-aggregate-mark c = search needs
 
 mark-requires : tie.Need-mark-requires
-mark-requires c κs = 
+mark-requires c κs =
     let e = c .before .before .before .before .before .before .zero-end .ensures in
     let m = zero-end-most (c .before .before .before .before .before .before .before .before .before .before .args .capacity) (c .before .before .before .before .before .before .before .before .before .before .args .flush) (c .before .before .before .before .before .before .before .before .before .before .args .n) (c .before .before .before .before .before .before .before .before .before .before .args .claim) (c .before .before .before .before .before .before .before .before .top .result) in
     let k = c .before .before .land .kept .1 .0 in
@@ -47,7 +47,7 @@ slice-aggregate-mark-2 : tie.Need-slice-aggregate-mark-2
 slice-aggregate-mark-2 c = search needs
 
 mark-requires-2 : tie.Need-mark-requires-2
-mark-requires-2 c κs = 
+mark-requires-2 c κs =
     let l : length (c .before .before .before .before .before .before .before .before .before .before .before .before .before .args .t1) ≡ 1025 = search needs in
     let e = c .before .before .before .before .before .before .before .before .stop-end .ensures in
     let m = stop-end-most (c .before .before .before .before .before .before .before .before .before .before .before .before .before .args .capacity) (c .before .before .before .before .before .before .before .before .before .before .before .before .before .args .flush) (c .before .before .before .before .before .before .before .before .before .before .before .before .before .args .n) (c .before .before .before .before .before .before .before .before .before .before .before .before .before .args .claim) (c .before .before .before .before .before .before .before .before .before .before .before .top .result) in
@@ -56,7 +56,7 @@ mark-requires-2 c κs =
     omega (arith, e, m, k, j, c .before .before .before .before .before .before .before .before .before .before .before .top .ensures .within, l)
 
 returns : tie.Need-returns
-returns c = 
+returns c =
     let l : length (c .before .before .before .before .before .before .before .before .before .before .before .before .before .before .before .args .t1) ≡ 1025 = search needs in
     turned _ _ _ _ _ _ _ _ _ _ _ _ l (c .before .before .before .before .before .before .before .before .before .before .before .before .before .top .ensures) (c .before .before .before .before .before .before .before .before .before .before .before .before .land-end .ensures) (c .before .before .before .before .before .before .before .before .before .before .before .zero-end .ensures) (c .before .before .before .before .before .before .before .before .before .before .stop-end .ensures) (c .before .before .before .before .before .before .before .land .ensures) (c .before .before .before .before .mark .ensures) (c .before .mark2 .ensures)
 

@@ -36,7 +36,7 @@ add-same-bytes : tie.Need-add-same-bytes Inv-loop μ-loop
 add-same-bytes c = omega (arith, c .before .before .before .before .before .before .before .loop .inv .within, c .before .before .before .before .before .before .before .before .before .pre)
 
 same-bytes-requires : tie.Need-same-bytes-requires Inv-loop μ-loop
-same-bytes-requires c κs = 
+same-bytes-requires c κs =
     let f = bytes-fit _ _ _ _ _ _ _ _ _ _ _ _ _ (c .before .before .before .before .before .before .before .loop .inv) (sym (c .before .before .before .before .before .read-call .ensures) ∙ c .before .before .before .read .given .1) (c .least .ensures ∙ ap (λ (k : ℕ). min k (c .before .before .before .before .before .before .before .before .before .args .long - c .before .before .before .before .before .before .before .loop .matched)) (c .before .answered-by .ensures)) (c .before .before .before .before .before .before .loop-test .taken) in
     (f .trace-part, omega (arith, f .card-part, c .before .before .before .before .before .before .before .before .before .pre))
 
@@ -44,7 +44,7 @@ returns : tie.Need-returns Inv-loop μ-loop
 returns c = bytes-differ _ _ _ _ _ _ _ _ _ _ _ _ _ (c .before .before .before .before .before .before .before .before .before .loop .inv) (sym (c .before .before .before .before .before .before .before .read-call .ensures) ∙ c .before .before .before .before .before .read .given .1) (c .before .before .least .ensures ∙ ap (λ (k : ℕ). min k (c .before .before .before .before .before .before .before .before .before .before .before .args .long - c .before .before .before .before .before .before .before .before .before .loop .matched)) (c .before .before .before .answered-by .ensures)) (c .before .before .before .before .before .before .before .before .loop-test .taken) (c .before .same-bytes .ensures .no-other (not-true _ (c .if1 .taken)))
 
 add-total : tie.Need-add-total Inv-loop μ-loop
-add-total c = 
+add-total c =
     let f = bytes-fit _ _ _ _ _ _ _ _ _ _ _ _ _ (c .before .before .before .before .before .before .before .before .before .before .loop .inv) (sym (c .before .before .before .before .before .before .before .before .read-call .ensures) ∙ c .before .before .before .before .before .before .read .given .1) (c .before .before .before .least .ensures ∙ ap (λ (k : ℕ). min k (c .before .before .before .before .before .before .before .before .before .before .before .before .args .long - c .before .before .before .before .before .before .before .before .before .before .loop .matched)) (c .before .before .before .before .answered-by .ensures)) (c .before .before .before .before .before .before .before .before .before .loop-test .taken) in
     omega (arith, f .total-fits)
 
@@ -52,12 +52,12 @@ sub-left : tie.Need-sub-left Inv-loop μ-loop
 sub-left c = omega arith
 
 add-matched : tie.Need-add-matched Inv-loop μ-loop
-add-matched c = 
+add-matched c =
     let f = bytes-fit _ _ _ _ _ _ _ _ _ _ _ _ _ (c .before .before .before .before .before .before .before .before .before .before .loop .inv) (sym (c .before .before .before .before .before .before .before .before .read-call .ensures) ∙ c .before .before .before .before .before .before .read .given .1) (c .before .before .before .least .ensures ∙ ap (λ (k : ℕ). min k (c .before .before .before .before .before .before .before .before .before .before .before .before .args .long - c .before .before .before .before .before .before .before .before .before .before .loop .matched)) (c .before .before .before .before .answered-by .ensures)) (c .before .before .before .before .before .before .before .before .before .loop-test .taken) in
     omega (arith, f .card-part)
 
 add-answered : tie.Need-add-answered Inv-loop μ-loop
-add-answered c = 
+add-answered c =
     let f = bytes-fit _ _ _ _ _ _ _ _ _ _ _ _ _ (c .before .before .before .before .before .before .before .before .before .before .loop .inv) (sym (c .before .before .before .before .before .before .before .before .read-call .ensures) ∙ c .before .before .before .before .before .before .read .given .1) (c .before .before .before .least .ensures ∙ ap (λ (k : ℕ). min k (c .before .before .before .before .before .before .before .before .before .before .before .before .args .long - c .before .before .before .before .before .before .before .before .before .before .loop .matched)) (c .before .before .before .before .answered-by .ensures)) (c .before .before .before .before .before .before .before .before .before .loop-test .taken) in
     omega (arith, f .answered-fits, c .before .before .before .before .answered-by .ensures)
 
@@ -65,7 +65,7 @@ loop-less : tie.Need-loop-less Inv-loop μ-loop
 loop-less c = omega arith
 
 loop-again : tie.Need-loop-again Inv-loop μ-loop
-loop-again c = 
+loop-again c =
     let g = bytes-again _ _ _ _ _ _ _ _ _ _ _ _ _ (c .before .before .before .before .before .before .before .before .before .before .loop .inv) (sym (c .before .before .before .before .before .before .before .before .read-call .ensures) ∙ c .before .before .before .before .before .before .read .given .1) (c .before .before .before .least .ensures ∙ ap (λ (k : ℕ). min k (c .before .before .before .before .before .before .before .before .before .before .before .before .args .long - c .before .before .before .before .before .before .before .before .before .before .loop .matched)) (c .before .before .before .before .answered-by .ensures)) (c .before .before .before .before .before .before .before .before .before .loop-test .taken) (c .before .before .same-bytes .ensures .yes-same (not-false _ (c .before .if1 .left))) in
     rw (c .before .before .before .before .answered-by .ensures) g
 

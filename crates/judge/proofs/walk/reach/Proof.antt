@@ -25,12 +25,12 @@ enum-known-read : tie.Need-enum-known-read Inv-loop μ-loop
 enum-known-read c = search needs
 
 turn-requires : tie.Need-turn-requires Inv-loop μ-loop
-turn-requires c κs = 
+turn-requires c κs =
     let s = call-short _ _ _ _ (sym (c .before .before .before .read-call .ensures) ∙ c .before .read .given .1) (c .before .before .before .before .before .loop .inv .few) in
     (c .before .before .before .before .before .before .before .pre, omega (arith, s))
 
 add-total : tie.Need-add-total Inv-loop μ-loop
-add-total c = 
+add-total c =
     let s = call-short _ _ _ _ (sym (c .before .before .before .before .before .read-call .ensures) ∙ c .before .before .before .read .given .1) (c .before .before .before .before .before .before .before .loop .inv .few) in
     omega (arith, s)
 
