@@ -1,0 +1,7 @@
+-- Lemmas that the proofs of this crate cite.
+pub mod Sizes
+pub mod Buffers
+pub mod Refusals
+pub mod Seeks
+pub mod Peeks
+pub mod Readings

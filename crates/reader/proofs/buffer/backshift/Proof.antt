@@ -1,0 +1,20 @@
+-- `reader::buffer::backshift` meets its contract. Assumes nothing.
+use borrow.Author.Needs.{needs}
+use Rattle.reader.proofs.Buffers.{shifted}
+use Rattle.reader.proofs.buffer.backshift.Statement.{statement}
+use Rattle.reader.proofs.buffer.backshift.Tie as tie
+
+shift-requires : tie.Need-shift-requires
+shift-requires c κs = search needs
+
+left-requires : tie.Need-left-requires
+left-requires c κs = search needs
+
+same-length : tie.Need-same-length
+same-length c = search needs
+
+returns : tie.Need-returns
+returns c = shifted _ _ (c .before .before .before .before .before .before .args .state) _ (c .before .before .before .shift .ensures) (c .left .ensures) (c .before .before .before .before .before .before .pre)
+
+pub backshift-spec : {M : Type 1} → statement M
+backshift-spec = tie.close (tie.spec shift-requires left-requires same-length returns)
