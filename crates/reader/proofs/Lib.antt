@@ -5,3 +5,4 @@ pub mod Refusals
 pub mod Seeks
 pub mod Peeks
 pub mod Readings
+pub mod Sames
