@@ -6,3 +6,4 @@ pub mod Seeks
 pub mod Peeks
 pub mod Readings
 pub mod Sames
+pub mod Ledger
