@@ -16,8 +16,9 @@ use Rattle.laws.specs.Pick.{pick}
 use Rattle.laws.specs.Put.{put}
 use Rattle.laws.proofs.Parts.{rest, drop-least}
 use Rattle.laws.proofs.Puts.{opened, length-put}
-use Rattle.card.specs.Device.{exchange, moves, takes}
-use Rattle.card.specs.declared.Reply.the-variants.{Accept}
+use Rattle.card.specs.Device.{exchange, atMost, moves, takes}
+use Rattle.card.specs.declared.Reply.{Reply}
+use Rattle.card.specs.declared.Reply.the-variants.{Accept, Interrupted, Error}
 use Rattle.card.specs.declared.Exchange.{Exchange}
 use Rattle.card.proofs.Replies.{exchange-most}
 use Rattle.reader.specs.declared.State.{State}
@@ -55,6 +56,13 @@ put-back s x at src n e =
     let more : x ≡ take n src ++ drop (at + n) s =
     e ∙ ap (λ (l : List ℕ). put l 0 src n) (rest at s) ∙ opened (drop at s) 0 src n ∙ ap (λ (k : ℕ). take n src ++ drop k (drop at s)) (zero-add n) ∙ ap (λ (l : List ℕ). take n src ++ l) (drop-drop n at s) in
     rw (none, append-nil, more, ← append-assoc) (sym (opened s at src n))
+
+-- a reply that is cut moves no more
+pub moves-cut : (most : ℕ) (r : Reply) → moves (atMost most r) ≤ moves r
+unfolding atMost
+moves-cut most (Accept n) = omega arith
+moves-cut most Interrupted = omega arith
+moves-cut most (Error code) = omega arith
 
 -- no more than was offered, nor than was left
 pub gives : (e : Exchange) (left : List ℕ) (used a b n : ℕ) → e ≡ exchange left used (min a b) → n ≡ moves (e .reply) → (n ≤ a) × (n ≤ b)

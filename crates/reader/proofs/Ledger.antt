@@ -27,6 +27,7 @@ use Rattle.reader.specs.World.{World, Fetched, Called, Reading, world}
 use Rattle.reader.specs.Buffer as Buffer
 use Rattle.reader.specs.Buffer.{count, new, discard, backshift, added, readMore}
 use Rattle.reader.specs.Reader.{handed, refusal, unless, fillBuf, consume, sought, seekRelative, shiftedBack, afterMore, peekTurn, peekLoop, peek, direct, copied, readUnrefused, read}
+use Rattle.reader.proofs.Buffers.{moves-cut}
 
 -- the reader's place in the stock: the bytes taken, less what is still buffered
 abbrev pub place : State → ℕ
@@ -110,13 +111,13 @@ shifted-kept stock w l =
     let long : length (put (w .storage) 0 (drop p (w .storage)) k) ≡ length (w .storage) = length-put (w .storage) 0 (drop p (w .storage)) k (omega arith) there in
     let front : take k (put (w .storage) 0 (drop p (w .storage)) k) ≡ take k (drop p (w .storage)) =
     ap (λ (j : ℕ). take j (put (w .storage) 0 (drop p (w .storage)) k)) (sym (zero-add k)) ∙ take-put (w .storage) 0 (drop p (w .storage)) k (omega arith) there in
-    record
-      { pos-in = omega arith
-      ; filled-in = rw long in-range
-      ; behind = omega (arith, l .behind)
-      ; taken-in = l .taken-in
-      ; bytes = front ∙ shown-bytes stock w l
-      }
+    record {
+      pos-in = omega arith;
+      filled-in = rw long in-range;
+      behind = omega (arith, l .behind);
+      taken-in = l .taken-in;
+      bytes = front ∙ shown-bytes stock w l;
+    }
 
 back-kept : (stock : List ℕ) (w : World) → Ledger stock w → Ledger stock (shiftedBack w)
 unfolding shiftedBack
@@ -144,13 +145,13 @@ more-kept left stock w l =
     ∙ ap₂ (λ (a b : List ℕ). a ++ take n b) (l .bytes) (sym (drop-drop f (t - f) stock ∙ ap (λ (k : ℕ). drop k stock) e))
     ∙ sym (take-add f n (drop (t - f) stock))
     ∙ ap (λ (k : ℕ). take (f + n) (drop k stock)) (sym from) in
-    record
-      { pos-in = omega (arith, l .pos-in)
-      ; filled-in = rw long (omega (arith, most, l .filled-in))
-      ; behind = omega (arith, l .behind)
-      ; taken-in = omega (arith, most, l .taken-in)
-      ; bytes = both
-      }
+    record {
+      pos-in = omega (arith, l .pos-in);
+      filled-in = rw long (omega (arith, most, l .filled-in));
+      behind = omega (arith, l .behind);
+      taken-in = omega (arith, most, l .taken-in);
+      bytes = both;
+    }
 
 pub filled-kept : (left stock : List ℕ) (w : World) → Ledger stock w → Ledger stock (Buffer.fillBuf left stock w .world)
 unfolding Buffer.fillBuf
@@ -174,10 +175,9 @@ turn-kept : (left stock : List ℕ) (n calls : ℕ) (w : World) (on : World → 
 unfolding peekTurn
 turn-kept left stock n calls w on l o = by (leb n (count (w .state)))
   where
-    f : Fetched
-    f = readMore left stock (shiftedBack w)
     m : Ledger stock (readMore left stock (shiftedBack w) .world)
     m = more-kept left stock (shiftedBack w) (back-kept stock w l)
+
     by : (b : Bool) → Ledger stock (pick b (record { reply = Accept n; calls = calls; world = w }) (afterMore (readMore left stock (shiftedBack w) .reply) (calls + readMore left stock (shiftedBack w) .calls) (readMore left stock (shiftedBack w) .world) (on (readMore left stock (shiftedBack w) .world))) .world)
     by true = l
     by false = after-kept stock (readMore left stock (shiftedBack w) .reply) _ (readMore left stock (shiftedBack w) .world) _ m (o (readMore left stock (shiftedBack w) .world) m)
@@ -226,20 +226,20 @@ direct-hands script stock d w l h =
     let most : moves r ≤ min (length d) rest = exchange-most left (w .state .used) (min (length d) rest) in
     let n : countOf (handed r) ≡ moves r = count-handed r in
     let here : place (w .state) ≡ t = omega arith in
-    record
-      { room = rw n (omega (arith, most))
-      ; there = rw (n, here) (omega (arith, most, l .taken-in))
-      ; bytes = rw (n, here) refl
-      ; onward = rw (n, here) (omega arith)
-      ; ledger =
-          record
-            { pos-in = omega arith
-            ; filled-in = omega arith
-            ; behind = omega arith
-            ; taken-in = omega (arith, most, l .taken-in)
-            ; bytes = refl
-            }
-      }
+    record {
+      room = rw n (omega (arith, most));
+      there = rw (n, here) (omega (arith, most, l .taken-in));
+      bytes = rw (n, here) refl;
+      onward = rw (n, here) (omega arith);
+      ledger =
+          record {
+            pos-in = omega arith;
+            filled-in = omega arith;
+            behind = omega arith;
+            taken-in = omega (arith, most, l .taken-in);
+            bytes = refl;
+          };
+    }
 
 -- a fill keeps the reader's place, and hands up the count of what is buffered
 pub record FillHolds (stock : List ℕ) (st : State) (f : Fetched) : Type 0 where
@@ -250,11 +250,11 @@ pub record FillHolds (stock : List ℕ) (st : State) (f : Fetched) : Type 0 wher
 fill-more : (left stock s : List ℕ) (st : State) → Ledger stock (world s st) → st .pos ≡ st .filled → FillHolds stock st (readMore left stock (world s (discard st)))
 unfolding readMore added
 fill-more left stock s st l h =
-    record
-      { ledger = more-kept left stock (world s (discard st)) (discarded stock s st l)
-      ; stays = omega arith
-      ; counted = omega arith
-      }
+    record {
+      ledger = more-kept left stock (world s (discard st)) (discarded stock s st l);
+      stays = omega arith;
+      counted = omega arith;
+    }
 
 pub fill-holds : (left stock : List ℕ) (w : World) → Ledger stock w → FillHolds stock (w .state) (Buffer.fillBuf left stock w)
 unfolding Buffer.fillBuf
@@ -263,12 +263,6 @@ fill-holds left stock w l = by (eqb (w .state .pos) (w .state .filled)) (λ e. e
     by : (b : Bool) → (b ≡ true → w .state .pos ≡ w .state .filled) → FillHolds stock (w .state) (pick b (readMore left stock (world (w .storage) (discard (w .state)))) (record { reply = Accept (count (w .state)); calls = 0; world = w }))
     by true h = fill-more left stock (w .storage) (w .state) l (h refl)
     by false h = record { ledger = l; stays = refl; counted = refl }
-
-moves-cut : (most : ℕ) (r : Reply) → moves (atMost most r) ≤ moves r
-unfolding atMost
-moves-cut most (Accept n) = omega arith
-moves-cut most Interrupted = omega arith
-moves-cut most (Error code) = omega arith
 
 -- place after n of the buffered bytes were consumed
 place-on : (p f t n : ℕ) → n ≤ f - p → p ≤ f → f ≤ t → t - (f - (p + min n (f - p))) ≡ t - (f - p) + n
@@ -286,24 +280,24 @@ copied-hands stock d st f k =
     let same : take (moves r) (drop (v .state .pos) (v .storage)) ≡ take (moves r) (drop (place st) stock) =
     take-fewer (moves r) (count (v .state)) (drop (v .state .pos) (v .storage)) (drop (place (v .state)) stock) few (shown-bytes stock v l)
     ∙ ap (λ (q : ℕ). take (moves r) (drop q stock)) (k .stays) in
-    record
-      { room = rw n most
-      ; there = rw (n, ← k .stays) (omega (arith, few, l .taken-in, l .behind, l .pos-in))
-      ; bytes = rw n (put-same d _ _ 0 (moves r) same)
-      ; onward = rw (n, ← k .stays) (place-on (v .state .pos) (v .state .filled) (v .state .taken) (moves r) few (l .pos-in) (l .behind))
-      ; ledger = consumed stock (v .storage) (v .state) (moves r) l
-      }
+    record {
+      room = rw n most;
+      there = rw (n, ← k .stays) (omega (arith, few, l .taken-in, l .behind, l .pos-in));
+      bytes = rw n (put-same d _ _ 0 (moves r) same);
+      onward = rw (n, ← k .stays) (place-on (v .state .pos) (v .state .filled) (v .state .taken) (moves r) few (l .pos-in) (l .behind));
+      ledger = consumed stock (v .storage) (v .state) (moves r) l;
+    }
 
 -- a refused `read` hands out nothing
 refused-hands : (stock d : List ℕ) (number : ℕ) (w : World) → Ledger stock w → Hands stock d (w .state) (record { destination = d; called = record { answer = refused number; calls = 0; world = w } })
 refused-hands stock d number w l =
-    record
-      { room = omega arith
-      ; there = omega (arith, l .taken-in, l .behind)
-      ; bytes = put-none d 0 (drop (place (w .state)) stock)
-      ; onward = omega arith
-      ; ledger = l
-      }
+    record {
+      room = omega arith;
+      there = omega (arith, l .taken-in, l .behind);
+      bytes = put-none d 0 (drop (place (w .state)) stock);
+      onward = omega arith;
+      ledger = l;
+    }
 
 unrefused-hands : (script stock d : List ℕ) (w : World) → Ledger stock w → Hands stock d (w .state) (readUnrefused script stock d w)
 unfolding readUnrefused
@@ -311,6 +305,7 @@ unrefused-hands script stock d w l = by (eqb (w .state .pos) (w .state .filled))
   where
     through : Hands stock d (w .state) (copied d (Buffer.fillBuf (drop (w .state .used) script) stock w))
     through = copied-hands stock d (w .state) (Buffer.fillBuf (drop (w .state .used) script) stock w) (fill-holds (drop (w .state .used) script) stock w l)
+
     by : (b k : Bool) → (b ≡ true → w .state .pos ≡ w .state .filled) → Hands stock d (w .state) (pick (b && k) (direct script stock d w) (copied d (Buffer.fillBuf (drop (w .state .used) script) stock w)))
     by true true h = direct-hands script stock d w l (h refl)
     by true false h = through
@@ -319,10 +314,8 @@ unrefused-hands script stock d w l = by (eqb (w .state .pos) (w .state .filled))
 -- each `read` hands out the stock's bytes from the reader's place on
 pub read-hands : (script stock d : List ℕ) (w : World) → Ledger stock w → Hands stock d (w .state) (read script stock d w)
 unfolding read
-read-hands script stock d w l = by (eqb number 0)
+read-hands script stock d w l = by (eqb (refusal script stock w (lengthRefusal (length d))) 0)
   where
-    number : ℕ
-    number = refusal script stock w (lengthRefusal (length d))
     by : (b : Bool) → Hands stock d (w .state) (pick b (readUnrefused script stock d w) (record { destination = d; called = record { answer = refused (refusal script stock w (lengthRefusal (length d))); calls = 0; world = w } }))
     by true = unrefused-hands script stock d w l
     by false = refused-hands stock d (refusal script stock w (lengthRefusal (length d))) w l

@@ -7,3 +7,5 @@ pub mod Peeks
 pub mod Readings
 pub mod Sames
 pub mod Ledger
+pub mod Counts
+pub mod Rows

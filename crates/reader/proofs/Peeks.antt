@@ -22,7 +22,7 @@ use Rattle.reader.specs.Reader.{shiftedBack, afterMore, peekTurn, peekLo
 use Rattle.reader.proofs.Buffers.{Kept, kept-back, kept-more}
 
 -- a shift back leaves the script's position, and a state that fits
-back-used : (w : World) → shiftedBack w .state .used ≡ w .state .used
+pub back-used : (w : World) → shiftedBack w .state .used ≡ w .state .used
 unfolding shiftedBack backshift
 back-used w = by (ltb 0 (w .state .pos))
   where
@@ -64,7 +64,7 @@ enough-left [] stock n calls w h = rw (le-leb _ _ h) refl
 enough-left (r ∷ rest) stock n calls w h = rw (le-leb _ _ h) refl
 
 -- past the script's end no bytes are given
-end-accepts : (stock : List ℕ) (v : World) (k : ℕ) → readMore [] stock v .reply ≡ Accept k → ⊥
+pub end-accepts : (stock : List ℕ) (v : World) (k : ℕ) → readMore [] stock v .reply ≡ Accept k → ⊥
 unfolding readMore added exchange next atMost
 end-accepts stock v k e =
     let z : _≡_ {A = ℕ} 0 1 = cc in

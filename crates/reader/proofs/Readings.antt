@@ -21,20 +21,13 @@ use Rattle.reader.specs.declared.State.{State}
 use Rattle.reader.specs.World.{Fetched, Reading, world, reading}
 use Rattle.reader.specs.Buffer.{count, consume, fillBuf}
 use Rattle.reader.specs.Reader.{handed, refusal, direct, copied, readUnrefused, read}
-use Rattle.reader.proofs.Buffers.{Fills}
+use Rattle.reader.proofs.Buffers.{Fills, moves-cut}
 use Rattle.reader.proofs.Refusals.{fit}
 
 -- straight from the device
 pub direct-got : (script stock d x : List ℕ) (st : State) (e : Exchange) (n : ℕ) (a : Said) → e ≡ exchange (drop (st .used) script) (st .used) (min (length d) (length stock - st .taken)) → x ≡ put d 0 (drop (st .taken) stock) (moves (e .reply)) → n ≡ moves (e .reply) → a ≡ handed (e .reply) → (s : List ℕ) → record { destination = x; called = record { answer = a; calls = 1; world = world s (record { pos = 0; filled = 0; taken = st .taken + n; used = e .used }) } } ≡ direct script stock d (world s st)
 unfolding direct
 direct-got script stock d x st e n a pe px pn pa s = rw (← pe, px, pn, pa)
-
--- a reply that is cut moves no more
-moves-cut : (most : ℕ) (r : Reply) → moves (atMost most r) ≤ moves r
-unfolding atMost
-moves-cut most (Accept n) = omega arith
-moves-cut most Interrupted = omega arith
-moves-cut most (Error code) = omega arith
 
 -- after a fill the place is inside the storage
 pub within : (script stock : List ℕ) (capacity : ℕ) (f : Fetched) → Fills script stock capacity f → f .world .state .pos ≤ length (f .world .storage)
