@@ -166,3 +166,8 @@ fills-so script stock w f = by (eqb (w .state .pos) (w .state .filled))
 
 pub fills : (script stock : List ℕ) (w : World) (g : Fetched) → g ≡ fillBuf (drop (w .state .used) script) stock w → Fit script stock w → Fills script stock (length (w .storage)) g
 fills script stock w g e f = rw e (fills-so script stock w f)
+
+-- in document 01's words: where the device is asked, pos becomes 0 and filled the count given, 0 on any other answer
+pub fill-asked : (left stock : List ℕ) (w : World) → w .state .pos ≡ w .state .filled → (fillBuf left stock w .world .state .pos ≡ 0) × (fillBuf left stock w .world .state .filled ≡ moves (fillBuf left stock w .reply))
+unfolding fillBuf readMore added
+fill-asked left stock w h = rw (eq-eqb _ _ h) (refl, zero-add _)

@@ -1,9 +1,9 @@
 -- The device calls that a call reports are the replies that it took, plus one if it met the script's end.
 -- Assumes nothing.
-use mathlib.Core.Path.{_≡_, refl, sym, ap, _∙_}
+use mathlib.Core.Path.{_≡_, refl}
 use mathlib.Core.Bool.{Bool, true, false, _&&_}
 use mathlib.Core.List.{List, [], _∷_}
-use Prim.Native.Nat.{ℕ, _+_, _-_, _≤_, _<_, min}
+use Prim.Native.Nat.{ℕ, _+_, _-_, _<_, min}
 use native.Mathlib.Omega.{arith}
 use lib.Dec.{leb, eqb}
 use lib.IntN.{ℤ, pos, negsuc}
@@ -16,10 +16,10 @@ use Rattle.card.specs.Limits.{lengthRefusal}
 use Rattle.card.specs.declared.Reply.{Reply}
 use Rattle.card.specs.declared.Reply.the-variants.{Accept, Interrupted, Error}
 use Rattle.reader.specs.declared.State.{State}
-use Rattle.reader.specs.World.{World, Fetched, Called, Reading, world}
+use Rattle.reader.specs.World.{World, Fetched, Called, world}
 use Rattle.reader.specs.Buffer as Buffer
 use Rattle.reader.specs.Buffer.{count, discard, added, readMore}
-use Rattle.reader.specs.Reader.{handed, handedUp, refusal, unless, fillBuf, consume, sought, seekRelative, shiftedBack, afterMore, peekTurn, peekLoop, peek, direct, copied, readUnrefused, read}
+use Rattle.reader.specs.Reader.{handed, refusal, unless, fillBuf, consume, sought, seekRelative, shiftedBack, afterMore, peekTurn, peekLoop, peek, direct, copied, readUnrefused, read}
 use Rattle.reader.proofs.Peeks.{back-used, end-accepts}
 
 -- 1 for an error of code 0, which only the script's end gives

@@ -4,15 +4,14 @@
 use mathlib.Core.Path.{_≡_, refl, sym, ap, ap₂, _∙_}
 use mathlib.Core.Bool.{Bool, true, false, _&&_}
 use mathlib.Core.List.{List, [], _∷_, _++_}
-use Prim.Native.Nat.{ℕ, suc, _+_, _-_, _≤_, _<_, min}
-use native.Mathlib.Decide.{decLe}
-use native.Mathlib.Nat.{zero-add, add-comm}
+use Prim.Native.Nat.{ℕ, suc, _+_, _-_, _≤_, min}
+use native.Mathlib.Nat.{zero-add}
 use native.Mathlib.Omega.{arith}
 use lib.Dec.{leb, ltb, eqb}
 use lib.IntN.{ℤ, pos, negsuc}
-use lib.ListN.{length, take, drop, getD, length-take, length-drop}
-use lib.Seq.{take-add, drop-drop, take-take, take-at, drop-at, length-take-le}
-use borrow.Author.Tests.{eqb-true, eqb-false}
+use lib.ListN.{length, take, drop, getD, length-drop}
+use lib.Seq.{take-add, drop-drop, take-take, drop-at, length-take-le}
+use borrow.Author.Tests.{eqb-true}
 use Rattle.laws.specs.Pick.{pick}
 use Rattle.laws.specs.Put.{put}
 use Rattle.laws.proofs.Puts.{opened, put-none, length-put, take-put}

@@ -14,7 +14,6 @@ use Rattle.card.specs.Device.{exchange, atMost, moves}
 use Rattle.card.specs.Limits.{refusalOf, lengthRefusal}
 use Rattle.card.specs.declared.Answer.the-variants.{Refused}
 use Rattle.card.specs.declared.Reply.{Reply}
-use Rattle.card.specs.declared.Reply.the-variants.{Accept, Interrupted, Error}
 use Rattle.card.specs.declared.Exchange.{Exchange}
 use Rattle.card.proofs.Replies.{moves-most}
 use Rattle.reader.specs.declared.State.{State}

@@ -3,13 +3,12 @@
 use mathlib.Core.Path.{_≡_, refl}
 use mathlib.Core.List.{List, [], _∷_}
 use Prim.Native.Nat.{ℕ}
-use lib.IntN.{ℤ, pos, negsuc}
+use lib.IntN.{pos, negsuc}
 use Rattle.laws.specs.Put.{put}
 use Rattle.card.specs.Answers.{ok, done, refused}
 use Rattle.card.specs.Device.{replyOf, next, takes, atMost, exchange}
 use Rattle.card.specs.Limits.{refusalOf, lengthRefusal}
-use Rattle.reader.specs.declared.State.{State}
-use Rattle.reader.specs.World.{World, Called, Reading, world}
+use Rattle.reader.specs.World.{World, world}
 use Rattle.reader.specs.Buffer as Buffer
 use Rattle.reader.specs.Buffer.{new, shown, backshift, added, readMore}
 use Rattle.reader.specs.Reader.{refusal, unless, shiftedBack, afterMore, peekTurn, peekLoop, peekRefusal, direct, copied, readUnrefused, seekRefusal, sought, read, peek, seekRelative}

@@ -4,11 +4,10 @@ use mathlib.Core.Path.{_≡_, sym, ap, _∙_}
 use mathlib.Core.List.{List}
 use Prim.Native.Nat.{ℕ}
 use lib.IntN.{ℤ}
-use Rattle.card.specs.declared.Answer.{Answer}
 use Rattle.card.proofs.Saids.{said-same}
 use Rattle.reader.specs.declared.State.{State}
 use Rattle.reader.specs.declared.Answered.{Answered}
-use Rattle.reader.specs.World.{World, Called, Reading, world, called, reading}
+use Rattle.reader.specs.World.{Called, Reading, world, called, reading}
 use Rattle.reader.specs.Reader.{fillBuf, consume, seekRelative, peek, read}
 
 -- what is told of a call and its storage tells both

@@ -7,7 +7,6 @@ use lib.ListN.{length, take, drop}
 use Rattle.laws.specs.Pick.{pick}
 use Rattle.laws.specs.Put.{put}
 use Rattle.card.specs.Device.{exchange, moves}
-use Rattle.card.specs.declared.Reply.{Reply}
 use Rattle.card.specs.declared.Reply.the-variants.{Accept}
 use Rattle.card.specs.declared.Exchange.{Exchange}
 use Rattle.reader.specs.declared.State.{State}
@@ -17,7 +16,7 @@ use Rattle.reader.specs.World.{World, Fetched, world}
 abbrev pub count : State → ℕ
 count s = s .filled - s .pos
 
--- the buffered bytes, and of them the first n or fewer: a part of the storage itself, from pos
+-- of the buffered bytes the first n, or all where there are fewer: a part of the storage itself, from pos
 unfoldable pub shown : ℕ → World → List ℕ
 shown n w = take (min n (count (w .state))) (drop (w .state .pos) (w .storage))
 
@@ -71,7 +70,8 @@ readMore left stock w =
     (exchange left (w .state .used) (min (length (w .storage) - w .state .filled) (length stock - w .state .taken)))
 
 -- `fill_buf` calls the device only when pos = filled, offering the whole storage; pos becomes 0 and filled the count
--- given, 0 on any other answer. Interrupted is handed up, not retried. Else what is buffered is the answer
+-- given, 0 on any other answer: it reads more where nothing is filled. Interrupted is handed up, not retried. Else the
+-- answer is the count of what is buffered
 unfoldable pub fillBuf : List ℕ → List ℕ → World → Fetched
 fillBuf left stock w =
     pick (eqb (w .state .pos) (w .state .filled))

@@ -143,57 +143,73 @@ pub fn consume(storage: &[u8], script: &[u32], stock: &[u8], state: State, amt: 
     }
 }
 
-// The size of an offset. The lowest value's size fits no i64, so one is added before the sign is
-// changed and given back after the cast.
-fn magnitude(offset: i64) -> usize
-    ensures { λ r. ⌜ r ≡ natAbs offset ⌝ }
+// Straight from the device. The storage has no part in it.
+fn read_direct(script: &[u32], stock: &[u8], state: State, destination: &mut [u8]) -> Answered
+    requires { ⌜ state .taken ≤ length (now stock) ⌝ }
+    ensures { λ r. ⌜ ((x : List ℕ) → reading r x (now (destination .exit)) ≡ direct (now (script .entry)) (now (stock .entry)) (now (destination .entry)) (world x state)) ⌝ }
 {
-    if offset < 0 {
-        return ((0 - (offset + 1)) as usize) + 1;
+    let taken = state.taken;
+    let e = device::read(script, state.used, destination, stock, taken);
+    let reply = e.reply;
+    let n = device::moved(reply);
+    Answered {
+        answer: answer_of(reply),
+        calls: 1,
+        state: State {
+            pos: 0,
+            filled: 0,
+            taken: taken + n,
+            used: e.used,
+        },
     }
-    offset as usize
 }
 
-// Whether pos + offset is at most filled is asked without the sum, which could overflow.
-fn seek_refusal(state: State, offset: i64) -> u32
-    ensures { λ r. ⌜ r ≡ seekRefusal offset state ⌝ }
+// A reply cut to what there is room for.
+fn cut(reply: Reply, most: usize) -> Reply
+    ensures { λ r. ⌜ r ≡ atMost most reply ⌝ }
 {
-    let size = magnitude(offset);
-    if offset < 0 {
-        if size <= state.pos {
-            return 0;
-        }
-        return 4;
+    match reply {
+        Reply::Accept(n) => Reply::Accept(bytes::least(n, most)),
+        Reply::Interrupted => Reply::Interrupted,
+        Reply::Error(code) => Reply::Error(code),
     }
-    if state.filled < size {
-        return 4;
-    }
-    if state.filled - size < state.pos {
-        return 4;
-    }
-    0
 }
 
-fn seek_to(state: State, offset: i64) -> State
-    ensures { λ r. ⌜ r ≡ sought offset state ⌝ }
-{
-    let size = magnitude(offset);
-    if offset < 0 {
-        return buffer::unconsume(state, size);
-    }
-    buffer::consume(state, size)
-}
-
-pub fn seek_relative(
-    storage: &[u8],
+// Through the buffer. A fill that failed leaves nothing to copy.
+fn read_copied(
+    storage: &mut [u8],
     script: &[u32],
     stock: &[u8],
     state: State,
-    offset: i64,
+    destination: &mut [u8],
 ) -> Answered
-    ensures { λ r. ⌜ called r (now (storage .entry)) ≡ seekRelative (now (script .entry)) (now (stock .entry)) offset (world (now (storage .entry)) state) ⌝ }
+    requires { ⌜ Fit (now script) (now stock) (world (now storage) state) ⌝ }
+    ensures { λ r. ⌜ reading r (now (storage .exit)) (now (destination .exit)) ≡ copied (now (destination .entry)) (Buffer.fillBuf (drop (state .used) (now (script .entry))) (now (stock .entry)) (world (now (storage .entry)) state)) ⌝ }
 {
-    let own = seek_refusal(state, offset);
+    let f = buffer::fill_buf(storage, script, stock, state);
+    let given = f.reply;
+    let reply = cut(given, destination.len());
+    let n = device::moved(reply);
+    let at = f.state;
+    let pos = at.pos;
+    bytes::copy(destination, 0, &storage[pos..], n);
+    Answered {
+        answer: answer_of(reply),
+        calls: f.calls,
+        state: buffer::consume(at, n),
+    }
+}
+
+pub fn read(
+    storage: &mut [u8],
+    script: &[u32],
+    stock: &[u8],
+    state: State,
+    destination: &mut [u8],
+) -> Answered
+    ensures { λ r. ⌜ reading r (now (storage .exit)) (now (destination .exit)) ≡ read (now (script .entry)) (now (stock .entry)) (now (destination .entry)) (world (now (storage .entry)) state) ⌝ }
+{
+    let own = limits::length_refusal(destination.len());
     let number = refusal(storage.len(), script, stock, state, own);
     if number != 0 {
         return Answered {
@@ -202,11 +218,13 @@ pub fn seek_relative(
             state,
         };
     }
-    Answered {
-        answer: Answer::Done,
-        calls: 0,
-        state: seek_to(state, offset),
+    if state.pos < state.filled {
+        return read_copied(storage, script, stock, state, destination);
     }
+    if destination.len() < storage.len() {
+        return read_copied(storage, script, stock, state, destination);
+    }
+    read_direct(script, stock, state, destination)
 }
 
 // The storage shifted back where something was consumed, and one device read behind it.
@@ -291,73 +309,57 @@ pub fn peek(storage: &mut [u8], script: &[u32], stock: &[u8], state: State, n: u
     handed_up(peek_loop(storage, script, stock, state, n))
 }
 
-// Straight from the device. The storage has no part in it.
-fn read_direct(script: &[u32], stock: &[u8], state: State, destination: &mut [u8]) -> Answered
-    requires { ⌜ state .taken ≤ length (now stock) ⌝ }
-    ensures { λ r. ⌜ ((x : List ℕ) → reading r x (now (destination .exit)) ≡ direct (now (script .entry)) (now (stock .entry)) (now (destination .entry)) (world x state)) ⌝ }
+// The size of an offset. The lowest value's size fits no i64, so one is added before the sign is
+// changed and given back after the cast.
+fn magnitude(offset: i64) -> usize
+    ensures { λ r. ⌜ r ≡ natAbs offset ⌝ }
 {
-    let taken = state.taken;
-    let e = device::read(script, state.used, destination, stock, taken);
-    let reply = e.reply;
-    let n = device::moved(reply);
-    Answered {
-        answer: answer_of(reply),
-        calls: 1,
-        state: State {
-            pos: 0,
-            filled: 0,
-            taken: taken + n,
-            used: e.used,
-        },
+    if offset < 0 {
+        return ((0 - (offset + 1)) as usize) + 1;
     }
+    offset as usize
 }
 
-// A reply cut to what there is room for.
-fn cut(reply: Reply, most: usize) -> Reply
-    ensures { λ r. ⌜ r ≡ atMost most reply ⌝ }
+// Whether pos + offset is at most filled is asked without the sum, which could overflow.
+fn seek_refusal(state: State, offset: i64) -> u32
+    ensures { λ r. ⌜ r ≡ seekRefusal offset state ⌝ }
 {
-    match reply {
-        Reply::Accept(n) => Reply::Accept(bytes::least(n, most)),
-        Reply::Interrupted => Reply::Interrupted,
-        Reply::Error(code) => Reply::Error(code),
+    let size = magnitude(offset);
+    if offset < 0 {
+        if size <= state.pos {
+            return 0;
+        }
+        return 4;
     }
+    if state.filled < size {
+        return 4;
+    }
+    if state.filled - size < state.pos {
+        return 4;
+    }
+    0
 }
 
-// Through the buffer. A fill that failed leaves nothing to copy.
-fn read_copied(
-    storage: &mut [u8],
+fn seek_to(state: State, offset: i64) -> State
+    ensures { λ r. ⌜ r ≡ sought offset state ⌝ }
+{
+    let size = magnitude(offset);
+    if offset < 0 {
+        return buffer::unconsume(state, size);
+    }
+    buffer::consume(state, size)
+}
+
+pub fn seek_relative(
+    storage: &[u8],
     script: &[u32],
     stock: &[u8],
     state: State,
-    destination: &mut [u8],
+    offset: i64,
 ) -> Answered
-    requires { ⌜ Fit (now script) (now stock) (world (now storage) state) ⌝ }
-    ensures { λ r. ⌜ reading r (now (storage .exit)) (now (destination .exit)) ≡ copied (now (destination .entry)) (Buffer.fillBuf (drop (state .used) (now (script .entry))) (now (stock .entry)) (world (now (storage .entry)) state)) ⌝ }
+    ensures { λ r. ⌜ called r (now (storage .entry)) ≡ seekRelative (now (script .entry)) (now (stock .entry)) offset (world (now (storage .entry)) state) ⌝ }
 {
-    let f = buffer::fill_buf(storage, script, stock, state);
-    let given = f.reply;
-    let reply = cut(given, destination.len());
-    let n = device::moved(reply);
-    let at = f.state;
-    let pos = at.pos;
-    bytes::copy(destination, 0, &storage[pos..], n);
-    Answered {
-        answer: answer_of(reply),
-        calls: f.calls,
-        state: buffer::consume(at, n),
-    }
-}
-
-pub fn read(
-    storage: &mut [u8],
-    script: &[u32],
-    stock: &[u8],
-    state: State,
-    destination: &mut [u8],
-) -> Answered
-    ensures { λ r. ⌜ reading r (now (storage .exit)) (now (destination .exit)) ≡ read (now (script .entry)) (now (stock .entry)) (now (destination .entry)) (world (now (storage .entry)) state) ⌝ }
-{
-    let own = limits::length_refusal(destination.len());
+    let own = seek_refusal(state, offset);
     let number = refusal(storage.len(), script, stock, state, own);
     if number != 0 {
         return Answered {
@@ -366,11 +368,9 @@ pub fn read(
             state,
         };
     }
-    if state.pos < state.filled {
-        return read_copied(storage, script, stock, state, destination);
+    Answered {
+        answer: Answer::Done,
+        calls: 0,
+        state: seek_to(state, offset),
     }
-    if destination.len() < storage.len() {
-        return read_copied(storage, script, stock, state, destination);
-    }
-    read_direct(script, stock, state, destination)
 }

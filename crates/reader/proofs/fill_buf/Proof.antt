@@ -11,10 +11,14 @@ refusal-requires c κs = search needs
 
 returns : tie.Need-returns
 unfolding fillBuf
-returns c = refused-so _ _ _ (c .before .before .before .before .before .args .state) _ _ _ (c .before .refusal .ensures) (c .if1 .taken)
+returns c =
+    let at-start = c .before .before .before .before .before in
+    refused-so _ _ _ (at-start .args .state) _ _ _ (c .before .refusal .ensures) (c .if1 .taken)
 
 fill-buf-requires : tie.Need-fill-buf-requires
-fill-buf-requires c κs = fit _ _ _ (c .before .before .before .before .before .before .args .state) _ _ (c .before .before .refusal .ensures) (c .before .if1 .left)
+fill-buf-requires c κs =
+    let at-start = c .before .before .before .before .before .before in
+    fit _ _ _ (at-start .args .state) _ _ (c .before .before .refusal .ensures) (c .before .if1 .left)
 
 handed-up-requires : tie.Need-handed-up-requires
 handed-up-requires c κs = search needs
@@ -24,7 +28,12 @@ same-length c = search needs
 
 returns-2 : tie.Need-returns-2
 unfolding fillBuf
-returns-2 c = answered-so _ _ _ (c .before .before .before .before .before .before .before .before .before .before .args .state) _ _ _ _ (c .before .before .before .before .before .before .refusal .ensures) (c .before .before .before .before .before .if1 .left) (c .handed-up .ensures _ ∙ ap handedUp (c .before .before .before .fill-buf .ensures))
+returns-2 c =
+    let at-fill-buf = c .before .before .before in
+    let at-if1 = at-fill-buf .before .before in
+    let at-refusal = at-if1 .before in
+    let at-start = at-refusal .before .before .before .before in
+    answered-so _ _ _ (at-start .args .state) _ _ _ _ (at-refusal .refusal .ensures) (at-if1 .if1 .left) (c .handed-up .ensures _ ∙ ap handedUp (at-fill-buf .fill-buf .ensures))
 
 pub fill-buf-spec : {M : Type 1} → statement M
 fill-buf-spec =

@@ -14,10 +14,14 @@ refusal-requires c κs = search needs
 
 returns : tie.Need-returns
 unfolding peek
-returns c = rw (← c .before .before .peek-refusal .ensures) (refused-so _ _ _ (c .before .before .before .before .before .before .args .state) _ _ _ (c .before .refusal .ensures) (c .if1 .taken))
+returns c =
+    let at-start = c .before .before .before .before .before .before in
+    rw (← c .before .before .peek-refusal .ensures) (refused-so _ _ _ (at-start .args .state) _ _ _ (c .before .refusal .ensures) (c .if1 .taken))
 
 peek-loop-requires : tie.Need-peek-loop-requires
-peek-loop-requires c κs = fit _ _ _ (c .before .before .before .before .before .before .before .args .state) _ _ (c .before .before .refusal .ensures) (c .before .if1 .left)
+peek-loop-requires c κs =
+    let at-start = c .before .before .before .before .before .before .before in
+    fit _ _ _ (at-start .args .state) _ _ (c .before .before .refusal .ensures) (c .before .if1 .left)
 
 handed-up-requires : tie.Need-handed-up-requires
 handed-up-requires c κs = search needs
@@ -27,7 +31,13 @@ same-length c = search needs
 
 returns-2 : tie.Need-returns-2
 unfolding peek
-returns-2 c = rw (← c .before .before .before .before .before .before .before .peek-refusal .ensures) (answered-so _ _ _ (c .before .before .before .before .before .before .before .before .before .before .before .args .state) _ _ _ _ (c .before .before .before .before .before .before .refusal .ensures) (c .before .before .before .before .before .if1 .left) (c .handed-up .ensures _ ∙ ap handedUp (c .before .before .before .peek-loop .ensures)))
+returns-2 c =
+    let at-peek-loop = c .before .before .before in
+    let at-if1 = at-peek-loop .before .before in
+    let at-refusal = at-if1 .before in
+    let at-peek-refusal = at-refusal .before in
+    let at-start = at-peek-refusal .before .before .before .before in
+    rw (← at-peek-refusal .peek-refusal .ensures) (answered-so _ _ _ (at-start .args .state) _ _ _ _ (at-refusal .refusal .ensures) (at-if1 .if1 .left) (c .handed-up .ensures _ ∙ ap handedUp (at-peek-loop .peek-loop .ensures)))
 
 pub peek-spec : {M : Type 1} → statement M
 peek-spec =

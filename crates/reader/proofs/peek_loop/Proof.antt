@@ -14,7 +14,9 @@ abbrev μ-loop : tie.MeasureT-loop
 μ-loop storage₀ script stock n at₀ calls₀ storage at calls = length script - at .used
 
 loop-holds : tie.Need-loop-holds Inv-loop μ-loop
-loop-holds c = starts _ _ _ (c .before .before .before .args .state) _ (c .before .before .before .pre)
+loop-holds c =
+    let at-start = c .before .before .before in
+    starts _ _ _ (at-start .args .state) _ (at-start .pre)
 
 left-requires : tie.Need-left-requires Inv-loop μ-loop
 left-requires c κs = search needs
@@ -23,7 +25,9 @@ shift-and-read-requires : tie.Need-shift-and-read-requires Inv-loop μ-loop
 shift-and-read-requires c κs = c .before .before .before .loop .inv .fit
 
 add-calls : tie.Need-add-calls Inv-loop μ-loop
-add-calls c = omega (arith, c .before .before .before .before .before .before .before .loop .inv .few, c .before .before .before .before .before .before .before .loop .inv .fit .used-in)
+add-calls c =
+    let at-loop = c .before .before .before .before .before .before .before in
+    omega (arith, at-loop .loop .inv .few, at-loop .loop .inv .fit .used-in)
 
 enum-known-reply : tie.Need-enum-known-reply Inv-loop μ-loop
 enum-known-reply c = search needs
@@ -32,36 +36,76 @@ left-requires-2 : tie.Need-left-requires-2 Inv-loop μ-loop
 left-requires-2 c κs = search needs
 
 same-length : tie.Need-same-length Inv-loop μ-loop
-same-length c = turn-kept _ _ _ _ _ _ _ _ (c .before .before .before .before .before .before .before .before .before .before .before .before .loop .inv) _ (c .before .before .before .before .before .before .before .before .shift-and-read .ensures) (rw (c .before .before .before .before .before .before .before .before .before .before .before .left .ensures) at (c .before .before .before .before .before .before .before .before .before .before .if1 .taken)) .long
+same-length c =
+    let at-shift-and-read = c .before .before .before .before .before .before .before .before in
+    let at-if1 = at-shift-and-read .before .before in
+    let at-left = at-if1 .before in
+    let at-loop = at-left .before in
+    turn-kept _ _ _ _ _ _ _ _ (at-loop .loop .inv) _ (at-shift-and-read .shift-and-read .ensures) (rw (at-left .left .ensures) at (at-if1 .if1 .taken)) .long
 
 returns : tie.Need-returns Inv-loop μ-loop
-returns c = at-end _ _ _ _ _ _ _ _ (c .before .before .before .before .before .before .before .before .before .before .before .before .loop .inv) _ (c .before .before .before .before .before .before .before .before .shift-and-read .ensures) (rw (c .before .before .before .before .before .before .before .before .before .before .before .left .ensures) at (c .before .before .before .before .before .before .before .before .before .before .if1 .taken)) _ _ (c .before .before .before .reply .given .1) (c .before .if2 .taken) (c .left2 .ensures)
+returns c =
+    let at-reply = c .before .before .before in
+    let at-shift-and-read = at-reply .before .before .before .before .before in
+    let at-if1 = at-shift-and-read .before .before in
+    let at-left = at-if1 .before in
+    let at-loop = at-left .before in
+    at-end _ _ _ _ _ _ _ _ (at-loop .loop .inv) _ (at-shift-and-read .shift-and-read .ensures) (rw (at-left .left .ensures) at (at-if1 .if1 .taken)) _ _ (at-reply .reply .given .1) (c .before .if2 .taken) (c .left2 .ensures)
 
 loop-less : tie.Need-loop-less Inv-loop μ-loop
 loop-less c =
-    let on = goes-on _ _ _ _ _ _ _ _ (c .before .before .before .before .before .before .before .before .before .before .before .loop .inv) _ (c .before .before .before .before .before .before .before .shift-and-read .ensures) (rw (c .before .before .before .before .before .before .before .before .before .before .left .ensures) at (c .before .before .before .before .before .before .before .before .before .if1 .taken)) _ (c .before .before .reply .given .1) (c .if2 .left) in
+    let at-shift-and-read = c .before .before .before .before .before .before .before in
+    let at-if1 = at-shift-and-read .before .before in
+    let at-left = at-if1 .before in
+    let at-loop = at-left .before in
+    let on = goes-on _ _ _ _ _ _ _ _ (at-loop .loop .inv) _ (at-shift-and-read .shift-and-read .ensures) (rw (at-left .left .ensures) at (at-if1 .if1 .taken)) _ (c .before .before .reply .given .1) (c .if2 .left) in
     omega (arith, on .1, on .0 .fit .used-in)
 
 loop-again : tie.Need-loop-again Inv-loop μ-loop
-loop-again c = goes-on _ _ _ _ _ _ _ _ (c .before .before .before .before .before .before .before .before .before .before .before .loop .inv) _ (c .before .before .before .before .before .before .before .shift-and-read .ensures) (rw (c .before .before .before .before .before .before .before .before .before .before .left .ensures) at (c .before .before .before .before .before .before .before .before .before .if1 .taken)) _ (c .before .before .reply .given .1) (c .if2 .left) .0
+loop-again c =
+    let at-shift-and-read = c .before .before .before .before .before .before .before in
+    let at-if1 = at-shift-and-read .before .before in
+    let at-left = at-if1 .before in
+    let at-loop = at-left .before in
+    goes-on _ _ _ _ _ _ _ _ (at-loop .loop .inv) _ (at-shift-and-read .shift-and-read .ensures) (rw (at-left .left .ensures) at (at-if1 .if1 .taken)) _ (c .before .before .reply .given .1) (c .if2 .left) .0
 
 enum-told : tie.Need-enum-told Inv-loop μ-loop
 enum-told c = search needs
 
 same-length-2 : tie.Need-same-length-2 Inv-loop μ-loop
-same-length-2 c = turn-kept _ _ _ _ _ _ _ _ (c .before .before .before .before .before .before .before .before .before .loop .inv) _ (c .before .before .before .before .before .shift-and-read .ensures) (rw (c .before .before .before .before .before .before .before .before .left .ensures) at (c .before .before .before .before .before .before .before .if1 .taken)) .long
+same-length-2 c =
+    let at-shift-and-read = c .before .before .before .before .before in
+    let at-if1 = at-shift-and-read .before .before in
+    let at-left = at-if1 .before in
+    let at-loop = at-left .before in
+    turn-kept _ _ _ _ _ _ _ _ (at-loop .loop .inv) _ (at-shift-and-read .shift-and-read .ensures) (rw (at-left .left .ensures) at (at-if1 .if1 .taken)) .long
 
 returns-2 : tie.Need-returns-2 Inv-loop μ-loop
-returns-2 c = at-interrupted _ _ _ _ _ _ _ _ (c .before .before .before .before .before .before .before .before .before .loop .inv) _ (c .before .before .before .before .before .shift-and-read .ensures) (rw (c .before .before .before .before .before .before .before .before .left .ensures) at (c .before .before .before .before .before .before .before .if1 .taken)) (c .enum-told .given .1)
+returns-2 c =
+    let at-shift-and-read = c .before .before .before .before .before in
+    let at-if1 = at-shift-and-read .before .before in
+    let at-left = at-if1 .before in
+    let at-loop = at-left .before in
+    at-interrupted _ _ _ _ _ _ _ _ (at-loop .loop .inv) _ (at-shift-and-read .shift-and-read .ensures) (rw (at-left .left .ensures) at (at-if1 .if1 .taken)) (c .enum-told .given .1)
 
 enum-known-reply-2 : tie.Need-enum-known-reply-2 Inv-loop μ-loop
 enum-known-reply-2 c = search needs
 
 same-length-3 : tie.Need-same-length-3 Inv-loop μ-loop
-same-length-3 c = turn-kept _ _ _ _ _ _ _ _ (c .before .before .before .before .before .before .before .before .before .before .loop .inv) _ (c .before .before .before .before .before .before .shift-and-read .ensures) (rw (c .before .before .before .before .before .before .before .before .before .left .ensures) at (c .before .before .before .before .before .before .before .before .if1 .taken)) .long
+same-length-3 c =
+    let at-shift-and-read = c .before .before .before .before .before .before in
+    let at-if1 = at-shift-and-read .before .before in
+    let at-left = at-if1 .before in
+    let at-loop = at-left .before in
+    turn-kept _ _ _ _ _ _ _ _ (at-loop .loop .inv) _ (at-shift-and-read .shift-and-read .ensures) (rw (at-left .left .ensures) at (at-if1 .if1 .taken)) .long
 
 returns-3 : tie.Need-returns-3 Inv-loop μ-loop
-returns-3 c = at-error _ _ _ _ _ _ _ _ (c .before .before .before .before .before .before .before .before .before .before .loop .inv) _ (c .before .before .before .before .before .before .shift-and-read .ensures) (rw (c .before .before .before .before .before .before .before .before .before .left .ensures) at (c .before .before .before .before .before .before .before .before .if1 .taken)) _ (c .before .reply2 .given .1)
+returns-3 c =
+    let at-shift-and-read = c .before .before .before .before .before .before in
+    let at-if1 = at-shift-and-read .before .before in
+    let at-left = at-if1 .before in
+    let at-loop = at-left .before in
+    at-error _ _ _ _ _ _ _ _ (at-loop .loop .inv) _ (at-shift-and-read .shift-and-read .ensures) (rw (at-left .left .ensures) at (at-if1 .if1 .taken)) _ (c .before .reply2 .given .1)
 
 same-length-4 : tie.Need-same-length-4 Inv-loop μ-loop
 same-length-4 c = c .before .before .loop .inv .long

@@ -34,7 +34,11 @@ part-result-end : tie.Need-part-result-end
 part-result-end c = search needs
 
 returns : tie.Need-returns
-returns c = part-shown (c .before .before .before .before .before .before .args .storage .now) (c .before .before .before .before .before .before .args .state) _ _ _ _ (c .before .before .before .before .least .ensures) (c .before .before .least2 .ensures ∙ ap (λ (k : ℕ). min (c .before .before .before .before .before .before .args .n) k) (c .before .before .before .left .ensures)) (c .before .least3 .ensures)
+returns c =
+    let at-left = c .before .before .before in
+    let at-least = at-left .before in
+    let at-start = at-least .before .before in
+    part-shown (at-start .args .storage .now) (at-start .args .state) _ _ _ _ (at-least .least .ensures) (c .before .before .least2 .ensures ∙ ap (λ (k : ℕ). min (at-start .args .n) k) (at-left .left .ensures)) (c .before .least3 .ensures)
 
 pub peeked-spec : {M : Type 1} → statement M
 peeked-spec =

@@ -12,10 +12,16 @@ refusal-requires : tie.Need-refusal-requires
 refusal-requires c κs = search needs
 
 returns : tie.Need-returns
-returns c = read-refused _ _ _ _ (c .before .before .before .before .before .before .before .args .state) _ _ (c .before .refusal .ensures) (c .before .before .length-refusal .ensures) (c .if1 .taken)
+returns c =
+    let at-start = c .before .before .before .before .before .before .before in
+    read-refused _ _ _ _ (at-start .args .state) _ _ (c .before .refusal .ensures) (c .before .before .length-refusal .ensures) (c .if1 .taken)
 
 read-copied-requires : tie.Need-read-copied-requires
-read-copied-requires c κs = fit _ _ _ (c .before .before .before .before .before .before .before .before .before .before .before .args .state) _ _ (c .before .before .before .before .before .refusal .ensures) (c .before .before .before .before .if1 .left)
+read-copied-requires c κs =
+    let at-if1 = c .before .before .before .before in
+    let at-refusal = at-if1 .before in
+    let at-start = at-refusal .before .before .before .before .before .before in
+    fit _ _ _ (at-start .args .state) _ _ (at-refusal .refusal .ensures) (at-if1 .if1 .left)
 
 same-length : tie.Need-same-length
 same-length c = search needs
@@ -24,10 +30,21 @@ same-length-2 : tie.Need-same-length-2
 same-length-2 c = search needs
 
 returns-2 : tie.Need-returns-2
-returns-2 c = read-held _ _ _ _ (c .before .before .before .before .before .before .before .before .before .before .before .before .before .before .before .before .args .state) _ _ (c .before .before .before .before .before .before .before .before .before .before .refusal .ensures) (c .before .before .before .before .before .before .before .before .before .before .before .length-refusal .ensures) (c .before .before .before .before .before .before .before .before .before .if1 .left) _ (c .before .before .before .before .before .before .before .if2 .taken) (c .before .before .before .before .read-copied .ensures)
+returns-2 c =
+    let at-read-copied = c .before .before .before .before in
+    let at-if2 = at-read-copied .before .before .before in
+    let at-if1 = at-if2 .before .before in
+    let at-refusal = at-if1 .before in
+    let at-length-refusal = at-refusal .before in
+    let at-start = at-length-refusal .before .before .before .before .before in
+    read-held _ _ _ _ (at-start .args .state) _ _ (at-refusal .refusal .ensures) (at-length-refusal .length-refusal .ensures) (at-if1 .if1 .left) _ (at-if2 .if2 .taken) (at-read-copied .read-copied .ensures)
 
 read-copied-requires-2 : tie.Need-read-copied-requires-2
-read-copied-requires-2 c κs = fit _ _ _ (c .before .before .before .before .before .before .before .before .before .before .before .before .args .state) _ _ (c .before .before .before .before .before .before .refusal .ensures) (c .before .before .before .before .before .if1 .left)
+read-copied-requires-2 c κs =
+    let at-if1 = c .before .before .before .before .before in
+    let at-refusal = at-if1 .before in
+    let at-start = at-refusal .before .before .before .before .before .before in
+    fit _ _ _ (at-start .args .state) _ _ (at-refusal .refusal .ensures) (at-if1 .if1 .left)
 
 same-length-3 : tie.Need-same-length-3
 same-length-3 c = search needs
@@ -36,18 +53,35 @@ same-length-4 : tie.Need-same-length-4
 same-length-4 c = search needs
 
 returns-3 : tie.Need-returns-3
-returns-3 c = read-small _ _ _ _ (c .before .before .before .before .before .before .before .before .before .before .before .before .before .before .before .before .before .args .state) _ _ (c .before .before .before .before .before .before .before .before .before .before .before .refusal .ensures) (c .before .before .before .before .before .before .before .before .before .before .before .before .length-refusal .ensures) (c .before .before .before .before .before .before .before .before .before .before .if1 .left) _ (c .before .before .before .before .before .before .before .if3 .taken) (c .before .before .before .before .read-copied2 .ensures)
+returns-3 c =
+    let at-read-copied2 = c .before .before .before .before in
+    let at-if3 = at-read-copied2 .before .before .before in
+    let at-if1 = at-if3 .before .before .before in
+    let at-refusal = at-if1 .before in
+    let at-length-refusal = at-refusal .before in
+    let at-start = at-length-refusal .before .before .before .before .before in
+    read-small _ _ _ _ (at-start .args .state) _ _ (at-refusal .refusal .ensures) (at-length-refusal .length-refusal .ensures) (at-if1 .if1 .left) _ (at-if3 .if3 .taken) (at-read-copied2 .read-copied2 .ensures)
 
 read-direct-requires : tie.Need-read-direct-requires
 read-direct-requires c κs =
-    let start = c .before .before .before .before .before .before .before .before .before .before .before in
-    fit (start .args .script .now) (start .args .stock .now) (start .args .storage .now) (start .args .state) (c .before .before .before .before .before .before .length-refusal .result) _ (c .before .before .before .before .before .refusal .ensures) (c .before .before .before .before .if1 .left) .taken-in
+    let at-if1 = c .before .before .before .before in
+    let at-refusal = at-if1 .before in
+    let at-length-refusal = at-refusal .before in
+    let at-start = at-length-refusal .before .before .before .before .before in
+    fit (at-start .args .script .now) (at-start .args .stock .now) (at-start .args .storage .now) (at-start .args .state) (at-length-refusal .length-refusal .result) _ (at-refusal .refusal .ensures) (at-if1 .if1 .left) .taken-in
 
 same-length-5 : tie.Need-same-length-5
 same-length-5 c = search needs
 
 returns-4 : tie.Need-returns-4
-returns-4 c = read-straight _ _ _ _ (c .before .before .before .before .before .before .before .before .before .before .before .before .before .before .args .state) _ _ (c .before .before .before .before .before .before .before .before .refusal .ensures) (c .before .before .before .before .before .before .before .before .before .length-refusal .ensures) (c .before .before .before .before .before .before .before .if1 .left) _ (c .before .before .before .before .before .if2 .left) (c .before .before .before .before .if3 .left) (c .before .before .read-direct .ensures _)
+returns-4 c =
+    let at-if3 = c .before .before .before .before in
+    let at-if2 = at-if3 .before in
+    let at-if1 = at-if2 .before .before in
+    let at-refusal = at-if1 .before in
+    let at-length-refusal = at-refusal .before in
+    let at-start = at-length-refusal .before .before .before .before .before in
+    read-straight _ _ _ _ (at-start .args .state) _ _ (at-refusal .refusal .ensures) (at-length-refusal .length-refusal .ensures) (at-if1 .if1 .left) _ (at-if2 .if2 .left) (at-if3 .if3 .left) (c .before .before .read-direct .ensures _)
 
 pub read-spec : {M : Type 1} → statement M
 read-spec =

@@ -15,10 +15,16 @@ moved-requires : tie.Need-moved-requires
 moved-requires c κs = search needs
 
 sub-copy : tie.Need-sub-copy
-sub-copy c = within _ _ _ _ (fills _ _ _ _ (c .before .before .before .before .before .before .fill-buf .ensures) (c .before .before .before .before .before .before .before .before .before .before .before .before .pre))
+sub-copy c =
+    let at-fill-buf = c .before .before .before .before .before .before in
+    let at-start = at-fill-buf .before .before .before .before .before .before in
+    within _ _ _ _ (fills _ _ _ _ (at-fill-buf .fill-buf .ensures) (at-start .pre))
 
 part-copy-start : tie.Need-part-copy-start
-part-copy-start c = within _ _ _ _ (fills _ _ _ _ (c .before .before .before .before .before .before .before .fill-buf .ensures) (c .before .before .before .before .before .before .before .before .before .before .before .before .before .pre))
+part-copy-start c =
+    let at-fill-buf = c .before .before .before .before .before .before .before in
+    let at-start = at-fill-buf .before .before .before .before .before .before in
+    within _ _ _ _ (fills _ _ _ _ (at-fill-buf .fill-buf .ensures) (at-start .pre))
 
 part-copy-end : tie.Need-part-copy-end
 part-copy-end c = search needs
@@ -39,7 +45,13 @@ same-length-2 : tie.Need-same-length-2
 same-length-2 c = search needs
 
 returns : tie.Need-returns
-returns c = copied-got _ _ _ _ _ _ _ _ _ _ _ (c .before .before .before .before .before .before .before .before .before .before .before .before .before .fill-buf .ensures) (fills _ _ _ _ (c .before .before .before .before .before .before .before .before .before .before .before .before .before .fill-buf .ensures) (c .before .before .before .before .before .before .before .before .before .before .before .before .before .before .before .before .before .before .before .pre)) (c .before .before .before .before .before .before .before .before .before .before .cut .ensures) (c .before .before .before .before .before .before .before .before .before .moved .ensures) (c .before .before .before .before .copy .ensures) (c .before .answer-of .ensures) (c .consume .ensures)
+returns c =
+    let at-copy = c .before .before .before .before in
+    let at-moved = at-copy .before .before .before .before .before in
+    let at-cut = at-moved .before in
+    let at-fill-buf = at-cut .before .before .before in
+    let at-start = at-fill-buf .before .before .before .before .before .before in
+    copied-got _ _ _ _ _ _ _ _ _ _ _ (at-fill-buf .fill-buf .ensures) (fills _ _ _ _ (at-fill-buf .fill-buf .ensures) (at-start .pre)) (at-cut .cut .ensures) (at-moved .moved .ensures) (at-copy .copy .ensures) (c .before .answer-of .ensures) (c .consume .ensures)
 
 pub read-copied-spec : {M : Type 1} → statement M
 read-copied-spec =

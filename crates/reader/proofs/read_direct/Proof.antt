@@ -19,15 +19,19 @@ answer-of-requires c κs = search needs
 
 add-t12 : tie.Need-add-t12
 add-t12 c =
-    let start = c .before .before .before .before .before .before .before .before .before in
-    let g = gives _ _ _ (length (start .args .destination .now)) (length (start .args .stock .now) - start .args .state .taken) _ (c .before .before .before .before .read .ensures .0) (c .before .moved .ensures) in
-    omega (arith, g .1, start .pre)
+    let at-read = c .before .before .before .before in
+    let at-start = at-read .before .before .before .before .before in
+    let g = gives _ _ _ (length (at-start .args .destination .now)) (length (at-start .args .stock .now) - at-start .args .state .taken) _ (at-read .read .ensures .0) (c .before .moved .ensures) in
+    omega (arith, g .1, at-start .pre)
 
 same-length : tie.Need-same-length
 same-length c = search needs
 
 returns : tie.Need-returns
-returns c = λ x. direct-got _ _ _ _ (c .before .before .before .before .before .before .before .before .before .args .state) _ _ _ (c .before .before .before .before .read .ensures .0) (c .before .before .before .before .read .ensures .1) (c .before .moved .ensures) (c .answer-of .ensures) x
+returns c =
+    let at-read = c .before .before .before .before in
+    let at-start = at-read .before .before .before .before .before in
+    λ x. direct-got _ _ _ _ (at-start .args .state) _ _ _ (at-read .read .ensures .0) (at-read .read .ensures .1) (c .before .moved .ensures) (c .answer-of .ensures) x
 
 pub read-direct-spec : {M : Type 1} → statement M
 read-direct-spec =

@@ -14,14 +14,19 @@ refusal-requires c κs = search needs
 
 returns : tie.Need-returns
 unfolding seekRelative
-returns c = rw (← refusal-of _ (c .before .before .before .before .before .before .fits .offset) _ _ (c .before .before .seek-refusal .ensures)) (refused-so _ _ _ (c .before .before .before .before .before .before .args .state) _ _ _ (c .before .refusal .ensures) (c .if1 .taken))
+returns c =
+    let at-start = c .before .before .before .before .before .before in
+    rw (← refusal-of _ (at-start .fits .offset) _ _ (c .before .before .seek-refusal .ensures)) (refused-so _ _ _ (at-start .args .state) _ _ _ (c .before .refusal .ensures) (c .if1 .taken))
 
 seek-to-requires : tie.Need-seek-to-requires
 seek-to-requires c κs = search needs
 
 returns-2 : tie.Need-returns-2
 unfolding seekRelative
-returns-2 c = rw (← refusal-of _ (c .before .before .before .before .before .before .before .fits .offset) _ _ (c .before .before .before .seek-refusal .ensures)) (answered-so _ _ _ (c .before .before .before .before .before .before .before .args .state) _ _ _ _ (c .before .before .refusal .ensures) (c .before .if1 .left) (rw (place-of _ (c .before .before .before .before .before .before .before .fits .offset) _ _ (c .seek-to .ensures))))
+returns-2 c =
+    let at-seek-refusal = c .before .before .before in
+    let at-start = at-seek-refusal .before .before .before .before in
+    rw (← refusal-of _ (at-start .fits .offset) _ _ (at-seek-refusal .seek-refusal .ensures)) (answered-so _ _ _ (at-start .args .state) _ _ _ _ (c .before .before .refusal .ensures) (c .before .if1 .left) (rw (place-of _ (at-start .fits .offset) _ _ (c .seek-to .ensures))))
 
 pub seek-relative-spec : {M : Type 1} → statement M
 seek-relative-spec =

@@ -12,13 +12,17 @@ unconsume-requires : tie.Need-unconsume-requires
 unconsume-requires c κs = search needs
 
 returns : tie.Need-returns
-returns c = back-to _ (c .before .before .before .args .state) _ (size-of _ (c .before .before .before .fits .offset) _ (c .before .before .magnitude .ensures)) _ (negative _ (c .before .before .before .fits .offset) (c .before .if1 .taken)) (c .unconsume .ensures)
+returns c =
+    let at-start = c .before .before .before in
+    back-to _ (at-start .args .state) _ (size-of _ (at-start .fits .offset) _ (c .before .before .magnitude .ensures)) _ (negative _ (at-start .fits .offset) (c .before .if1 .taken)) (c .unconsume .ensures)
 
 consume-requires : tie.Need-consume-requires
 consume-requires c κs = search needs
 
 returns-2 : tie.Need-returns-2
-returns-2 c = on-to _ (c .before .before .before .args .state) _ (size-of _ (c .before .before .before .fits .offset) _ (c .before .before .magnitude .ensures)) _ (natural _ (c .before .before .before .fits .offset) (c .before .if1 .left)) (c .consume .ensures)
+returns-2 c =
+    let at-start = c .before .before .before in
+    on-to _ (at-start .args .state) _ (size-of _ (at-start .fits .offset) _ (c .before .before .magnitude .ensures)) _ (natural _ (at-start .fits .offset) (c .before .if1 .left)) (c .consume .ensures)
 
 pub seek-to-spec : {M : Type 1} → statement M
 seek-to-spec =

@@ -14,7 +14,10 @@ same-length : tie.Need-same-length
 same-length c = search needs
 
 returns : tie.Need-returns
-returns c = shifted _ _ (c .before .before .before .before .before .before .args .state) _ (c .before .before .before .shift .ensures) (c .left .ensures) (c .before .before .before .before .before .before .pre)
+returns c =
+    let at-shift = c .before .before .before in
+    let at-start = at-shift .before .before .before in
+    shifted _ _ (at-start .args .state) _ (at-shift .shift .ensures) (c .left .ensures) (at-start .pre)
 
 pub backshift-spec : {M : Type 1} → statement M
 backshift-spec = tie.close (tie.spec shift-requires left-requires same-length returns)

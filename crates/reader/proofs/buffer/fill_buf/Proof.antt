@@ -8,19 +8,27 @@ discard-buffer-requires : tie.Need-discard-buffer-requires
 discard-buffer-requires c κs = search needs
 
 read-more-requires : tie.Need-read-more-requires
-read-more-requires c κs = rw (c .discard-buffer .ensures) (fit-discard _ _ _ (c .before .before .before .before .before .before .before .args .state) (c .before .before .before .before .before .before .before .pre))
+read-more-requires c κs =
+    let at-start = c .before .before .before .before .before .before .before in
+    rw (c .discard-buffer .ensures) (fit-discard _ _ _ (at-start .args .state) (at-start .pre))
 
 same-length : tie.Need-same-length
 same-length c = search needs
 
 returns : tie.Need-returns
-returns c = fill-read _ _ _ (c .before .before .before .before .before .before .before .before .before .before .args .state) _ _ (c .before .before .read-more .ensures) (c .before .before .before .discard-buffer .ensures) (c .before .before .before .before .before .if1 .taken)
+returns c =
+    let at-discard-buffer = c .before .before .before in
+    let at-if1 = at-discard-buffer .before .before in
+    let at-start = at-if1 .before .before .before .before .before in
+    fill-read _ _ _ (at-start .args .state) _ _ (c .before .before .read-more .ensures) (at-discard-buffer .discard-buffer .ensures) (at-if1 .if1 .taken)
 
 left-requires : tie.Need-left-requires
 left-requires c κs = search needs
 
 returns-2 : tie.Need-returns-2
-returns-2 c = fill-kept _ _ _ (c .before .before .before .before .before .before .args .state) _ (c .left .ensures) (c .before .if1 .left)
+returns-2 c =
+    let at-start = c .before .before .before .before .before .before in
+    fill-kept _ _ _ (at-start .args .state) _ (c .left .ensures) (c .before .if1 .left)
 
 pub fill-buf-spec : {M : Type 1} → statement M
 fill-buf-spec =
