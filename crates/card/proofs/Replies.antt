@@ -67,3 +67,42 @@ pub rest-fits : (a n k : ℕ) (s : List ℕ) → k ≡ min n (length s) → min 
 rest-fits a n k s e =
     let h : length (take (length s - k) (drop k s)) ≡ length s - n = ap length (rest-from n k s e) ∙ length-drop n s in
     rw h (omega arith)
+
+-- a call takes a reply unless it fails at the script's end, and never one that is not there
+pub takes-accept : (left : List ℕ) (most t : ℕ) → atMost most (next left) ≡ Accept t → takes left ≡ 1
+unfolding next takes atMost
+takes-accept [] most t q =
+    let z : _≡_ {A = ℕ} 0 1 = cc in
+    absurd (omega arith)
+takes-accept (n ∷ rest) most t q = refl
+
+pub takes-interrupted : (left : List ℕ) (most : ℕ) → atMost most (next left) ≡ Interrupted → takes left ≡ 1
+unfolding next takes atMost
+takes-interrupted [] most q =
+    let z : _≡_ {A = ℕ} 0 1 = cc in
+    absurd (omega arith)
+takes-interrupted (n ∷ rest) most q = refl
+
+pub takes-most : (left : List ℕ) → takes left ≤ length left
+unfolding takes
+takes-most [] = omega arith
+takes-most (n ∷ rest) = omega arith
+
+pub takes-one : (left : List ℕ) → takes left ≤ 1
+unfolding takes
+takes-one [] = omega arith
+takes-one (n ∷ rest) = omega arith
+
+pub takes-fit : (script : List ℕ) (used : ℕ) → used ≤ length script → used + takes (drop used script) ≤ length script
+takes-fit script used h =
+    let m : takes (drop used script) ≤ length script - used = rw (← (length-drop used script)) (takes-most (drop used script)) in
+    omega arith
+
+-- the fields of an exchange
+pub reply-of-exchange : (e : Exchange) (left : List ℕ) (used most : ℕ) → e ≡ exchange left used most → atMost most (next left) ≡ e .reply
+unfolding exchange
+reply-of-exchange e left used most p = sym (ap (λ (x : Exchange). x .reply) p)
+
+pub used-of-exchange : (e : Exchange) (left : List ℕ) (used most : ℕ) → e ≡ exchange left used most → e .used ≡ used + takes left
+unfolding exchange
+used-of-exchange e left used most p = ap (λ (x : Exchange). x .used) p

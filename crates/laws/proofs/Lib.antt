@@ -1,3 +1,4 @@
 -- Lemmas that more than one crate cites.
 pub mod Puts
 pub mod Parts
+pub mod Picks

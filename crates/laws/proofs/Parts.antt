@@ -25,3 +25,12 @@ drop-least n k s e = by (decLe n (length s))
         let q : k ≡ n = omega arith in
         rw q
     by (no h) = drop-of-length-le s {i = k} (omega arith) ∙ sym (drop-of-length-le s {i = n} (omega arith))
+
+pub take-least : (n k : ℕ) (s : List ℕ) → k ≡ min n (length s) → take k s ≡ take n s
+take-least n k s e = by (decLe n (length s))
+  where
+    by : Dec (n ≤ length s) → take k s ≡ take n s
+    by (yes h) =
+        let q : k ≡ n = omega arith in
+        rw q
+    by (no h) = take-all k s (omega arith) ∙ sym (take-all n s (omega arith))

@@ -78,3 +78,8 @@ shift-more d x from i e h =
     ∙ ap (λ (l : List ℕ). set l i (getD (drop from d) i 0)) e
     ∙ ap (λ (k : ℕ). set (put d 0 (drop from d) i) k (getD (drop from d) i 0)) (sym (zero-add i))
     ∙ put-more d 0 (drop from d) i (omega arith) long
+
+-- a paste from a prefix of s that is long enough
+pub put-take : (d : List ℕ) (at : ℕ) (s : List ℕ) (h n : ℕ) → n ≤ h → put d at (take h s) n ≡ put d at s n
+unfolding put
+put-take d at s h n p = ap (λ (l : List ℕ). take at d ++ l ++ drop (at + n) d) (take-take n h s p)

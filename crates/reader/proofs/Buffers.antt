@@ -1,39 +1,27 @@
 -- What the buffer's calls leave.
 -- Assumes nothing.
 use mathlib.Core.Path.{_≡_, refl, sym, ap, _∙_}
-use mathlib.Core.Bool.{Bool, true, false}
-use mathlib.Core.List.{List, [], _∷_, _++_, append-assoc, append-nil}
+use mathlib.Core.List.{List, [], _++_, append-assoc, append-nil}
 use Prim.Native.Nat.{ℕ, _+_, _-_, _≤_, min}
 use native.Mathlib.Nat.{zero-add}
-use native.Mathlib.Decide.{decLe}
 use native.Mathlib.Omega.{arith}
 use lib.Dec.{eqb}
 use lib.ListN.{length, take, drop, length-drop, drop-of-length-le}
-use lib.Seq.{take-all, drop-drop}
+use lib.Seq.{drop-drop}
 use borrow.Rule.Slice.PartMut.{putMid}
 use borrow.Author.Tests.{eq-eqb, ne-eqb}
-use Rattle.laws.specs.Pick.{pick}
 use Rattle.laws.specs.Put.{put}
-use Rattle.laws.proofs.Parts.{rest, drop-least}
+use Rattle.laws.proofs.Picks.{pick-holds}
+use Rattle.laws.proofs.Parts.{rest, drop-least, take-least}
 use Rattle.laws.proofs.Puts.{opened, length-put}
-use Rattle.card.specs.Device.{exchange, atMost, moves, takes}
+use Rattle.card.specs.Device.{exchange, atMost, moves}
 use Rattle.card.specs.declared.Reply.{Reply}
 use Rattle.card.specs.declared.Reply.the-variants.{Accept, Interrupted, Error}
 use Rattle.card.specs.declared.Exchange.{Exchange}
-use Rattle.card.proofs.Replies.{exchange-most}
+use Rattle.card.proofs.Replies.{exchange-most, takes-fit}
 use Rattle.reader.specs.declared.State.{State}
 use Rattle.reader.specs.World.{World, Fetched, Fit, world, fetched}
 use Rattle.reader.specs.Buffer.{count, shown, discard, backshift, added, readMore, fillBuf}
-
--- the first k of a list, where k is n cut to what is there
-take-least : (n k : ℕ) (l : List ℕ) → k ≡ min n (length l) → take k l ≡ take n l
-take-least n k l e = by (decLe n (length l))
-  where
-    by : Dec (n ≤ length l) → take k l ≡ take n l
-    by (yes h) =
-        let q : k ≡ n = omega arith in
-        rw q
-    by (no h) = take-all k l (omega arith) ∙ sym (take-all n l (omega arith))
 
 -- a part of the storage, cut to what is there
 pub part-shown : (s : List ℕ) (st : State) (n from held more : ℕ) → from ≡ min (st .pos) (length s) → held ≡ min n (st .filled - st .pos) → more ≡ min held (length s - from) → take (from + more - from) (drop from s) ≡ shown n (world s st)
@@ -101,17 +89,10 @@ pub record Kept (script stock : List ℕ) (capacity : ℕ) (v : World) : Type 0 
 pub fit-discard : (script stock s : List ℕ) (st : State) → Fit script stock (world s st) → Fit script stock (world s (discard st))
 fit-discard script stock s st f = record { pos-in = omega arith; filled-in = omega arith; taken-in = f .taken-in; used-in = f .used-in }
 
-takes-most : (left : List ℕ) → takes left ≤ length left
-unfolding takes
-takes-most [] = omega arith
-takes-most (n ∷ rest) = omega arith
-
 -- the script's position stays within the script
 pub used-most : (script : List ℕ) (used most : ℕ) → used ≤ length script → exchange (drop used script) used most .used ≤ length script
 unfolding exchange
-used-most script used most h =
-    let t : takes (drop used script) ≤ length script - used = rw (← length-drop used script) (takes-most (drop used script)) in
-    omega arith
+used-most script used most h = takes-fit script used h
 
 pub kept-back : (script stock : List ℕ) (w : World) → Fit script stock w → Kept script stock (length (w .storage)) (backshift w)
 unfolding backshift
@@ -154,15 +135,13 @@ pub record Fills (script stock : List ℕ) (capacity : ℕ) (f : Fetched) : Type
 
 fills-so : (script stock : List ℕ) (w : World) → Fit script stock w → Fills script stock (length (w .storage)) (fillBuf (drop (w .state .used) script) stock w)
 unfolding fillBuf
-fills-so script stock w f = by (eqb (w .state .pos) (w .state .filled))
-  where
-    by : (b : Bool) → Fills script stock (length (w .storage)) (pick b (readMore (drop (w .state .used) script) stock (world (w .storage) (discard (w .state)))) (record { reply = Accept (count (w .state)); calls = 0; world = w }))
-    by true =
-        record {
-          kept = kept-more script stock (world (w .storage) (discard (w .state))) (fit-discard script stock (w .storage) (w .state) f);
-          counted = more-counted (drop (w .state .used) script) stock (w .storage) (w .state);
-        }
-    by false = record { kept = record { fit = f; long = refl }; counted = refl }
+fills-so script stock w f =
+    pick-holds (Fills script stock (length (w .storage))) (eqb (w .state .pos) (w .state .filled)) _ _
+    (λ e. record {
+      kept = kept-more script stock (world (w .storage) (discard (w .state))) (fit-discard script stock (w .storage) (w .state) f);
+      counted = more-counted (drop (w .state .used) script) stock (w .storage) (w .state);
+    })
+    (λ e. record { kept = record { fit = f; long = refl }; counted = refl })
 
 pub fills : (script stock : List ℕ) (w : World) (g : Fetched) → g ≡ fillBuf (drop (w .state .used) script) stock w → Fit script stock w → Fills script stock (length (w .storage)) g
 fills script stock w g e f = rw e (fills-so script stock w f)

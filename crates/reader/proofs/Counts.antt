@@ -9,14 +9,15 @@ use lib.Dec.{leb, eqb}
 use lib.IntN.{ℤ, pos, negsuc}
 use lib.ListN.{length, drop, getD}
 use borrow.Author.Tests.{leb-false, eqb-false, ne-eqb}
+use Rattle.laws.proofs.Picks.{pick-holds}
 use Rattle.laws.specs.Pick.{pick}
-use Rattle.card.specs.Answers.{Said, refused}
+use Rattle.card.specs.Answers.{Said}
 use Rattle.card.specs.Device.{replyOf, next, takes, atMost, exchange}
 use Rattle.card.specs.Limits.{lengthRefusal}
 use Rattle.card.specs.declared.Reply.{Reply}
 use Rattle.card.specs.declared.Reply.the-variants.{Accept, Interrupted, Error}
 use Rattle.reader.specs.declared.State.{State}
-use Rattle.reader.specs.World.{World, Fetched, Called, world}
+use Rattle.reader.specs.World.{World, Fetched, Called, Reading, world}
 use Rattle.reader.specs.Buffer as Buffer
 use Rattle.reader.specs.Buffer.{count, discard, added, readMore}
 use Rattle.reader.specs.Reader.{handed, refusal, unless, fillBuf, consume, sought, seekRelative, shiftedBack, afterMore, peekTurn, peekLoop, peek, direct, copied, readUnrefused, read}
@@ -59,19 +60,14 @@ more-one left stock w = refl
 
 fill-counts : (left stock : List ℕ) (w : World) → Counts (w .state .used) (Buffer.fillBuf left stock w)
 unfolding Buffer.fillBuf Counts
-fill-counts left stock w = by (eqb (w .state .pos) (w .state .filled))
-  where
-    by : (b : Bool) → Counts (w .state .used) (pick b (readMore left stock (world (w .storage) (discard (w .state)))) (record { reply = Accept (count (w .state)); calls = 0; world = w }))
-    by true = more-counts left stock (world (w .storage) (discard (w .state)))
-    by false = omega arith
+fill-counts left stock w =
+    pick-holds (Counts (w .state .used)) (eqb (w .state .pos) (w .state .filled)) _ _
+    (λ e. more-counts left stock (world (w .storage) (discard (w .state))))
+    (λ e. omega arith)
 
 after-counts : (from : ℕ) (r : Reply) (calls : ℕ) (v : World) (on : Fetched) → calls + from ≡ v .state .used + ended (handed r) → ((k : ℕ) → r ≡ Accept k → Counts from on) → Counts from (afterMore r calls v on)
 unfolding afterMore Counts
-after-counts from (Accept n) calls v on h o = by (eqb n 0)
-  where
-    by : (b : Bool) → Counts from (pick b (record { reply = Accept (count (v .state)); calls = calls; world = v }) on)
-    by true = h
-    by false = o n refl
+after-counts from (Accept n) calls v on h o = pick-holds (Counts from) (eqb n 0) _ _ (λ e. h) (λ e. o n refl)
 after-counts from Interrupted calls v on h o = h
 after-counts from (Error code) calls v on h o = h
 
@@ -87,24 +83,17 @@ turn-accepts from left stock calls k w h e =
     omega arith
 
 -- a turn, when `calls` were made since `from`
-turn-counts : (from : ℕ) (left stock : List ℕ) (n calls : ℕ) (w : World) (on : World → Fetched) → calls + from ≡ w .state .used → ((v : World) (k : ℕ) → v ≡ readMore left stock (shiftedBack w) .world → readMore left stock (shiftedBack w) .reply ≡ Accept k → calls + 1 + from ≡ v .state .used → Counts from (on v)) → Counts from (peekTurn left stock n calls w on)
+turn-counts : (from : ℕ) (left stock : List ℕ) (n calls : ℕ) (w : World) (on : World → Fetched) → calls + from ≡ w .state .used → ((v : World) (k : ℕ) → readMore left stock (shiftedBack w) .reply ≡ Accept k → calls + 1 + from ≡ v .state .used → Counts from (on v)) → Counts from (peekTurn left stock n calls w on)
 unfolding peekTurn Counts
-turn-counts from left stock n calls w on h o = by (leb n (count (w .state)))
-  where
-    made : calls + readMore left stock (shiftedBack w) .calls + from ≡ readMore left stock (shiftedBack w) .world .state .used + ended (handed (readMore left stock (shiftedBack w) .reply))
-    made = turn-made from left stock calls w h
-
-    goes : (k : ℕ) → readMore left stock (shiftedBack w) .reply ≡ Accept k → Counts from (on (readMore left stock (shiftedBack w) .world))
-    goes k e = o (readMore left stock (shiftedBack w) .world) k refl e (turn-accepts from left stock calls k w h e)
-
-    by : (b : Bool) → Counts from (pick b (record { reply = Accept n; calls = calls; world = w }) (afterMore (readMore left stock (shiftedBack w) .reply) (calls + readMore left stock (shiftedBack w) .calls) (readMore left stock (shiftedBack w) .world) (on (readMore left stock (shiftedBack w) .world))))
-    by true = omega (arith, h)
-    by false = after-counts from (readMore left stock (shiftedBack w) .reply) _ (readMore left stock (shiftedBack w) .world) _ made goes
+turn-counts from left stock n calls w on h o =
+    pick-holds (Counts from) (leb n (count (w .state))) _ _
+    (λ e. omega (arith, h))
+    (λ e. after-counts from (readMore left stock (shiftedBack w) .reply) _ (readMore left stock (shiftedBack w) .world) _ (turn-made from left stock calls w h) (λ k q. o (readMore left stock (shiftedBack w) .world) k q (turn-accepts from left stock calls k w h q)))
 
 loop-counts : (from : ℕ) (left stock : List ℕ) (n calls : ℕ) (w : World) → calls + from ≡ w .state .used → Counts from (peekLoop left stock n calls w)
 unfolding peekLoop
-loop-counts from [] stock n calls w h = turn-counts from [] stock n calls w _ h (λ v k ev er e. absurd (end-accepts stock (shiftedBack w) k er))
-loop-counts from (r ∷ rest) stock n calls w h = turn-counts from (r ∷ rest) stock n calls w _ h (λ v k ev er e. loop-counts from rest stock n (calls + 1) v e)
+loop-counts from [] stock n calls w h = turn-counts from [] stock n calls w _ h (λ v k er e. absurd (end-accepts stock (shiftedBack w) k er))
+loop-counts from (r ∷ rest) stock n calls w h = turn-counts from (r ∷ rest) stock n calls w _ h (λ v k er e. loop-counts from rest stock n (calls + 1) v e)
 
 -- THE DEVICE CALLS of each public call: the replies that it took, plus one if it met the script's end
 pub Reports : World → Called → Type 0
@@ -112,11 +101,7 @@ Reports w c = c .calls + w .state .used ≡ c .world .state .used + ended (c .an
 
 unless-reports : (number : ℕ) (w : World) (c : Called) → Reports w c → Reports w (unless number w c)
 unfolding unless Reports
-unless-reports number w c h = by (eqb number 0)
-  where
-    by : (b : Bool) → Reports w (pick b c (record { answer = refused number; calls = 0; world = w }))
-    by true = h
-    by false = omega arith
+unless-reports number w c h = pick-holds (Reports w) (eqb number 0) _ _ (λ e. h) (λ e. omega arith)
 
 pub fill-buf-reports : (script stock : List ℕ) (w : World) → Reports w (fillBuf script stock w)
 unfolding fillBuf Reports Counts
@@ -155,9 +140,9 @@ copied-reports d w f h = rw (ended-cut (length d) (f .reply)) h
 
 pub read-reports : (script stock d : List ℕ) (w : World) → Reports w (read script stock d w .called)
 unfolding read readUnrefused Reports
-read-reports script stock d w = by (eqb (refusal script stock w (lengthRefusal (length d))) 0) (eqb (w .state .pos) (w .state .filled) && leb (length (w .storage)) (length d))
-  where
-    by : (b k : Bool) → Reports w (pick b (pick k (direct script stock d w) (copied d (Buffer.fillBuf (drop (w .state .used) script) stock w))) (record { destination = d; called = record { answer = refused (refusal script stock w (lengthRefusal (length d))); calls = 0; world = w } }) .called)
-    by true true = direct-reports script stock d w
-    by true false = copied-reports d w _ (fill-counts (drop (w .state .used) script) stock w)
-    by false k = omega arith
+read-reports script stock d w =
+    pick-holds (λ (r : Reading). Reports w (r .called)) (eqb (refusal script stock w (lengthRefusal (length d))) 0) _ _
+    (λ e. pick-holds (λ (r : Reading). Reports w (r .called)) (eqb (w .state .pos) (w .state .filled) && leb (length (w .storage)) (length d)) _ _
+    (λ e′. direct-reports script stock d w)
+    (λ e′. copied-reports d w _ (fill-counts (drop (w .state .used) script) stock w)))
+    (λ e. omega arith)

@@ -12,6 +12,7 @@ use lib.IntN.{ℤ, pos, negsuc}
 use lib.ListN.{length, take, drop, getD, length-drop}
 use lib.Seq.{take-add, drop-drop, take-take, drop-at, length-take-le}
 use borrow.Author.Tests.{eqb-true}
+use Rattle.laws.proofs.Picks.{pick-holds}
 use Rattle.laws.specs.Pick.{pick}
 use Rattle.laws.specs.Put.{put}
 use Rattle.laws.proofs.Puts.{opened, put-none, length-put, take-put}
@@ -120,11 +121,7 @@ shifted-kept stock w l =
 
 back-kept : (stock : List ℕ) (w : World) → Ledger stock w → Ledger stock (shiftedBack w)
 unfolding shiftedBack
-back-kept stock w l = by (ltb 0 (w .state .pos))
-  where
-    by : (b : Bool) → Ledger stock (pick b (backshift w) w)
-    by true = shifted-kept stock w l
-    by false = l
+back-kept stock w l = pick-holds (Ledger stock) (ltb 0 (w .state .pos)) _ _ (λ e. shifted-kept stock w l) (λ e. l)
 
 pub more-kept : (left stock : List ℕ) (w : World) → Ledger stock w → Ledger stock (readMore left stock w .world)
 unfolding readMore added
@@ -154,32 +151,24 @@ more-kept left stock w l =
 
 pub filled-kept : (left stock : List ℕ) (w : World) → Ledger stock w → Ledger stock (Buffer.fillBuf left stock w .world)
 unfolding Buffer.fillBuf
-filled-kept left stock w l = by (eqb (w .state .pos) (w .state .filled))
-  where
-    by : (b : Bool) → Ledger stock (pick b (readMore left stock (world (w .storage) (discard (w .state)))) (record { reply = Accept (count (w .state)); calls = 0; world = w }) .world)
-    by true = more-kept left stock (world (w .storage) (discard (w .state))) (discarded stock (w .storage) (w .state) l)
-    by false = l
+filled-kept left stock w l =
+    pick-holds (λ (f : Fetched). Ledger stock (f .world)) (eqb (w .state .pos) (w .state .filled)) _ _
+    (λ e. more-kept left stock (world (w .storage) (discard (w .state))) (discarded stock (w .storage) (w .state) l))
+    (λ e. l)
 
 after-kept : (stock : List ℕ) (r : Reply) (calls : ℕ) (w : World) (on : Fetched) → Ledger stock w → Ledger stock (on .world) → Ledger stock (afterMore r calls w on .world)
 unfolding afterMore
-after-kept stock (Accept n) calls w on l o = by (eqb n 0)
-  where
-    by : (b : Bool) → Ledger stock (pick b (record { reply = Accept (count (w .state)); calls = calls; world = w }) on .world)
-    by true = l
-    by false = o
+after-kept stock (Accept n) calls w on l o = pick-holds (λ (f : Fetched). Ledger stock (f .world)) (eqb n 0) _ _ (λ e. l) (λ e. o)
 after-kept stock Interrupted calls w on l o = l
 after-kept stock (Error code) calls w on l o = l
 
 turn-kept : (left stock : List ℕ) (n calls : ℕ) (w : World) (on : World → Fetched) → Ledger stock w → ((v : World) → Ledger stock v → Ledger stock (on v .world)) → Ledger stock (peekTurn left stock n calls w on .world)
 unfolding peekTurn
-turn-kept left stock n calls w on l o = by (leb n (count (w .state)))
-  where
-    m : Ledger stock (readMore left stock (shiftedBack w) .world)
-    m = more-kept left stock (shiftedBack w) (back-kept stock w l)
-
-    by : (b : Bool) → Ledger stock (pick b (record { reply = Accept n; calls = calls; world = w }) (afterMore (readMore left stock (shiftedBack w) .reply) (calls + readMore left stock (shiftedBack w) .calls) (readMore left stock (shiftedBack w) .world) (on (readMore left stock (shiftedBack w) .world))) .world)
-    by true = l
-    by false = after-kept stock (readMore left stock (shiftedBack w) .reply) _ (readMore left stock (shiftedBack w) .world) _ m (o (readMore left stock (shiftedBack w) .world) m)
+turn-kept left stock n calls w on l o =
+    let m = more-kept left stock (shiftedBack w) (back-kept stock w l) in
+    pick-holds (λ (f : Fetched). Ledger stock (f .world)) (leb n (count (w .state))) _ _
+    (λ e. l)
+    (λ e. after-kept stock (readMore left stock (shiftedBack w) .reply) _ (readMore left stock (shiftedBack w) .world) _ m (o (readMore left stock (shiftedBack w) .world) m))
 
 peek-kept : (left stock : List ℕ) (n calls : ℕ) (w : World) → Ledger stock w → Ledger stock (peekLoop left stock n calls w .world)
 unfolding peekLoop
@@ -188,11 +177,7 @@ peek-kept (r ∷ rest) stock n calls w l = turn-kept (r ∷ rest) stock n calls 
 
 unless-kept : (stock : List ℕ) (number : ℕ) (w : World) (c : Called) → Ledger stock w → Ledger stock (c .world) → Ledger stock (unless number w c .world)
 unfolding unless
-unless-kept stock number w c l m = by (eqb number 0)
-  where
-    by : (b : Bool) → Ledger stock (pick b c (record { answer = refused number; calls = 0; world = w }) .world)
-    by true = m
-    by false = l
+unless-kept stock number w c l m = pick-holds (λ (d : Called). Ledger stock (d .world)) (eqb number 0) _ _ (λ e. m) (λ e. l)
 
 -- What `read` hands out: as many bytes as it answers, the stock's from the reader's place on, and the place moves by them
 pub record Hands (stock d : List ℕ) (st : State) (r : Reading) : Type 0 where
@@ -257,11 +242,10 @@ fill-more left stock s st l h =
 
 pub fill-holds : (left stock : List ℕ) (w : World) → Ledger stock w → FillHolds stock (w .state) (Buffer.fillBuf left stock w)
 unfolding Buffer.fillBuf
-fill-holds left stock w l = by (eqb (w .state .pos) (w .state .filled)) (λ e. eqb-true (w .state .pos) (w .state .filled) e)
-  where
-    by : (b : Bool) → (b ≡ true → w .state .pos ≡ w .state .filled) → FillHolds stock (w .state) (pick b (readMore left stock (world (w .storage) (discard (w .state)))) (record { reply = Accept (count (w .state)); calls = 0; world = w }))
-    by true h = fill-more left stock (w .storage) (w .state) l (h refl)
-    by false h = record { ledger = l; stays = refl; counted = refl }
+fill-holds left stock w l =
+    pick-holds (FillHolds stock (w .state)) (eqb (w .state .pos) (w .state .filled)) _ _
+    (λ e. fill-more left stock (w .storage) (w .state) l (eqb-true (w .state .pos) (w .state .filled) e))
+    (λ e. record { ledger = l; stays = refl; counted = refl })
 
 -- place after n of the buffered bytes were consumed
 place-on : (p f t n : ℕ) → n ≤ f - p → p ≤ f → f ≤ t → t - (f - (p + min n (f - p))) ≡ t - (f - p) + n
@@ -313,11 +297,10 @@ unrefused-hands script stock d w l = by (eqb (w .state .pos) (w .state .filled))
 -- each `read` hands out the stock's bytes from the reader's place on
 pub read-hands : (script stock d : List ℕ) (w : World) → Ledger stock w → Hands stock d (w .state) (read script stock d w)
 unfolding read
-read-hands script stock d w l = by (eqb (refusal script stock w (lengthRefusal (length d))) 0)
-  where
-    by : (b : Bool) → Hands stock d (w .state) (pick b (readUnrefused script stock d w) (record { destination = d; called = record { answer = refused (refusal script stock w (lengthRefusal (length d))); calls = 0; world = w } }))
-    by true = unrefused-hands script stock d w l
-    by false = refused-hands stock d (refusal script stock w (lengthRefusal (length d))) w l
+read-hands script stock d w l =
+    pick-holds (Hands stock d (w .state)) (eqb (refusal script stock w (lengthRefusal (length d))) 0) _ _
+    (λ e. unrefused-hands script stock d w l)
+    (λ e. refused-hands stock d (refusal script stock w (lengthRefusal (length d))) w l)
 
 -- no call breaks the ledger
 pub call-kept : (script stock : List ℕ) (c : Call) (w : World) → Ledger stock w → Ledger stock (after script stock c w)

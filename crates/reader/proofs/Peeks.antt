@@ -1,7 +1,6 @@
 -- The turns of `peek`'s loop, and how it ends.
 -- Assumes nothing.
 use mathlib.Core.Path.{_≡_, refl, sym, ap, _∙_}
-use mathlib.Core.Bool.{Bool, true, false}
 use mathlib.Core.List.{List, [], _∷_}
 use Prim.Native.Nat.{ℕ, suc, _+_, _≤_, _<_}
 use native.Mathlib.Decide.{decLe}
@@ -11,7 +10,7 @@ use lib.Dec.{ltb}
 use lib.ListN.{length, drop, getD, drop-of-length-le}
 use lib.Seq.{drop-cons}
 use borrow.Author.Tests.{le-leb, lt-leb, ne-eqb, lt-ltb, le-ltb}
-use Rattle.laws.specs.Pick.{pick}
+use Rattle.laws.proofs.Picks.{pick-holds}
 use Rattle.card.specs.Device.{exchange, next, takes, atMost}
 use Rattle.card.specs.declared.Reply.{Reply}
 use Rattle.card.specs.declared.Reply.the-variants.{Accept, Interrupted, Error}
@@ -24,19 +23,11 @@ use Rattle.reader.proofs.Buffers.{Kept, kept-back, kept-more}
 -- a shift back leaves the script's position, and a state that fits
 pub back-used : (w : World) → shiftedBack w .state .used ≡ w .state .used
 unfolding shiftedBack backshift
-back-used w = by (ltb 0 (w .state .pos))
-  where
-    by : (b : Bool) → pick b (backshift w) w .state .used ≡ w .state .used
-    by true = refl
-    by false = refl
+back-used w = pick-holds (λ (v : World). v .state .used ≡ w .state .used) (ltb 0 (w .state .pos)) _ _ (λ e. refl) (λ e. refl)
 
 pub kept-shifted : (script stock : List ℕ) (w : World) → Fit script stock w → Kept script stock (length (w .storage)) (shiftedBack w)
 unfolding shiftedBack
-kept-shifted script stock w f = by (ltb 0 (w .state .pos))
-  where
-    by : (b : Bool) → Kept script stock (length (w .storage)) (pick b (backshift w) w)
-    by true = kept-back script stock w f
-    by false = record { fit = f; long = refl }
+kept-shifted script stock w f = pick-holds (Kept script stock (length (w .storage))) (ltb 0 (w .state .pos)) _ _ (λ e. kept-back script stock w f) (λ e. record { fit = f; long = refl })
 
 -- the two ways to shift and read
 pub shift-read : (script stock s : List ℕ) (st : State) (v : World) (g : Fetched) → g ≡ readMore (drop (v .state .used) script) stock v → v ≡ backshift (world s st) → 0 < st .pos → g ≡ readMore (drop (st .used) script) stock (shiftedBack (world s st))

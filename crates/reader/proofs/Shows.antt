@@ -8,6 +8,7 @@ use native.Mathlib.Omega.{arith}
 use lib.Dec.{leb, ltb, eqb}
 use lib.ListN.{length, drop, length-take, length-drop}
 use borrow.Author.Tests.{leb-true, leb-false, eqb-true}
+use Rattle.laws.proofs.Picks.{pick-holds}
 use Rattle.laws.specs.Pick.{pick}
 use Rattle.laws.proofs.Puts.{length-put}
 use Rattle.card.specs.Answers.{ok, refused}
@@ -43,11 +44,7 @@ record Shifted (w v : World) : Type 0 where
 
 shifted-so : (w : World) → Inside w → Shifted w (shiftedBack w)
 unfolding shiftedBack
-shifted-so w i = by (ltb 0 (w .state .pos))
-  where
-    by : (b : Bool) → Shifted w (pick b (backshift w) w)
-    by true = record { inside = shift-inside w i; same = shift-count w }
-    by false = record { inside = i; same = refl }
+shifted-so w i = pick-holds (Shifted w) (ltb 0 (w .state .pos)) _ _ (λ e. record { inside = shift-inside w i; same = shift-count w }) (λ e. record { inside = i; same = refl })
 
 more-inside : (left stock : List ℕ) (w : World) → Inside w → Inside (readMore left stock w .world)
 unfolding readMore added
