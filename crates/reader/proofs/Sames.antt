@@ -8,6 +8,7 @@ use Rattle.card.proofs.Saids.{said-same}
 use Rattle.reader.specs.declared.State.{State}
 use Rattle.reader.specs.declared.Answered.{Answered}
 use Rattle.reader.specs.World.{Called, Reading, world, called, reading}
+use Rattle.reader.specs.Buffer.{new, count, shown}
 use Rattle.reader.specs.Reader.{fillBuf, consume, seekRelative, peek, read}
 
 -- what is told of a call and its storage tells both
@@ -39,3 +40,13 @@ module _ (script stock s : List ℕ) (st : State) (r q : Answered) where
   read-one d x y u v e f =
       let g : reading r x u ≡ reading q y v = e ∙ sym f in
       (called-same r q x y (ap (λ (c : Reading). c .called) g), ap (λ (c : Reading). c .destination) g)
+
+-- the promises that are an equation for the result itself
+pub new-one : (r q : State) → r ≡ new → q ≡ new → r ≡ q
+new-one r q e f = e ∙ sym f
+
+pub peeked-one : (n : ℕ) (s : List ℕ) (st : State) (x y : List ℕ) → x ≡ shown n (world s st) → y ≡ shown n (world s st) → x ≡ y
+peeked-one n s st x y e f = e ∙ sym f
+
+pub buffered-one : (s : List ℕ) (st : State) (x y : List ℕ) → x ≡ shown (count st) (world s st) → y ≡ shown (count st) (world s st) → x ≡ y
+buffered-one s st x y e f = peeked-one (count st) s st x y e f
