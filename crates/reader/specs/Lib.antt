@@ -1,0 +1,3 @@
+pub mod World
+pub mod Buffer
+pub mod Reader
