@@ -5,11 +5,11 @@ use mathlib.Core.List.{List, [], _∷_}
 use Prim.Native.Nat.{ℕ, _+_, _-_, _≤_, _<_, min}
 use native.Mathlib.Decide.{decLe}
 use native.Mathlib.Omega.{arith}
-use native.Mathlib.Nat.{add-zero}
-use lib.ListN.{length, drop, getD, set, length-set, length-drop}
-use lib.Seq.{drop-drop, getD-drop}
+use native.Mathlib.Nat.{add-zero, zero-add}
+use lib.ListN.{length, take, drop, getD, set, length-set, length-drop}
+use lib.Seq.{take-all, drop-drop, getD-drop}
 use Rattle.laws.specs.Put.{put}
-use Rattle.laws.proofs.Puts.{put-none, put-more}
+use Rattle.laws.proofs.Puts.{put-none, put-more, take-put}
 use Rattle.numbers.specs.declared.Number.the-variants.{Value, Fault as NoNumber}
 use Rattle.numbers.specs.Number.{numberMost}
 use Rattle.form.specs.Replies.{wordMost, repliesIn}
@@ -72,3 +72,12 @@ module _ (t : List ℕ) (count first : ℕ) (lent : List ℕ) where
             let q = none-left (w .left ∙ in-none t (count - done) at (omega arith)) in
             exact (min (length (repliesIn t count first)) (length lent)) (omega (arith, w .room))
         by (no k) = exact (min (length (repliesIn t count first)) (length lent)) (omega (arith, w .room, w .some))
+
+-- where the script has room, its first places are then the replies
+pub filled : (t : List ℕ) (count first : ℕ) (lent script replies : List ℕ) → script ≡ put lent 0 (repliesIn t count first) (min (length (repliesIn t count first)) (length lent)) → repliesIn t count first ≡ replies → length replies ≡ count → count ≤ length lent → take count script ≡ replies
+filled t count first lent script replies e q k h =
+    let n : min (length (repliesIn t count first)) (length lent) ≡ count = omega (arith, ap length q) in
+    ap (λ (s : List ℕ). take count s) (e ∙ ap (λ (m : ℕ). put lent 0 (repliesIn t count first) m) n ∙ ap (λ (r : List ℕ). put lent 0 r count) q)
+    ∙ ap (λ (m : ℕ). take m (put lent 0 replies count)) (sym (zero-add count))
+    ∙ take-put lent 0 replies count (omega arith) (omega arith)
+    ∙ take-all count replies (omega arith)

@@ -1,6 +1,6 @@
 -- What is read keeps: lengths, sizes and places lie within their limits and in the session.
 -- Assumes nothing.
-use mathlib.Core.Path.{_≡_}
+use mathlib.Core.Path.{_≡_, ap, _∙_}
 use mathlib.Core.Bool.{Bool, true, false}
 use mathlib.Core.List.{List}
 use Prim.Native.Nat.{ℕ, _+_, _-_, _≤_, _<_}
@@ -19,7 +19,7 @@ use Rattle.form.specs.declared.Call.the-variants.{Write, WriteAll, Flush
 use Rattle.form.specs.declared.CallRead.{CallRead}
 use Rattle.form.specs.declared.CallRead.the-variants.{Found, Fault as NoCall}
 use Rattle.form.specs.Replies.{wordMost}
-use Rattle.form.specs.Calls.{lengthAt, writeAt, writeAllAt, readAt, peekAt, consumeAt, sizeAt, seekAt, writerCall, readerCall, callAt}
+use Rattle.form.specs.Calls.{asked, callNumber, lengthAt, writeAt, writeAllAt, readAt, peekAt, consumeAt, sizeAt, seekAt, writerCall, readerCall, callAt}
 use Rattle.form.specs.Session.{stockOf}
 
 -- A length at place `at`, and its bytes
@@ -68,14 +68,16 @@ Fits t kind (Consume n) = (kind ≡ 2) × (n ≤ wordMost)
 Fits t kind (Seek back size) = (kind ≡ 2) × ((size ≤ wordMost) × (back ≡ true → 1 ≤ size))
 Fits t kind Fill = kind ≡ 2
 
--- A call that stands after place `at`
+-- A call at place `at`: its number stands there, and the rest of it after that
 pub record CallWithin (t : List ℕ) (kind at : ℕ) (call : Call) (next : ℕ) : Type 0 where
+  pub body : ℕ
+  pub number : numberMost t at 7 ≡ Value (callNumber (asked t call)) body
   pub later : at < next
   pub ends : next ≤ length t
   pub fits : Fits t kind call
 
 -- of whatever is read
-abbrev pub GoodCall : List ℕ → ℕ → ℕ → CallRead → Type 0
+abbrev GoodCall : List ℕ → ℕ → ℕ → CallRead → Type 0
 GoodCall t kind at (Found call next) = CallWithin t kind at call next
 GoodCall t kind at (NoCall place) = Unit
 
@@ -84,84 +86,90 @@ true-false e =
     let z : _≡_ {A = ℕ} 0 1 = cc in
     omega arith
 
-module _ (t : List ℕ) (kind from at : ℕ) (after : from < at) where
+-- the calls one by one, where the call's number stands at place `from` and the rest at place `at`
+module _ (t : List ℕ) (kind from number at : ℕ) (here : numberMost t from 7 ≡ Value number at) where
+  there : (k : ℕ) → number ≡ k → numberMost t from 7 ≡ Value k at
+  there k e = here ∙ ap (λ (x : ℕ). Value x at) e
+
+  after : from < at
+  after = most-places t from 7 number at here .0
+
   module _ (no : kind ≡ 2 → ⊥) where
-    write-good : GoodCall t kind from (writeAt t at)
+    write-good : number ≡ 0 → GoodCall t kind from (writeAt t at)
     unfolding writeAt
-    write-good =
+    write-good q =
         after-holds (GoodCall t kind from) (lengthAt t at) NoCall _ (λ p e. tt)
-        (λ n start e. let w = length-part t at n start e in record { later = omega (arith, w .later); ends = w .ends; fits = (no, (w .ends, w .most)) })
+        (λ n start e. let w = length-part t at n start e in record { body = at; number = there 0 q; later = omega (arith, w .later, after); ends = w .ends; fits = (no, (w .ends, w .most)) })
 
-    write-all-good : GoodCall t kind from (writeAllAt t at)
+    write-all-good : number ≡ 1 → GoodCall t kind from (writeAllAt t at)
     unfolding writeAllAt
-    write-all-good =
+    write-all-good q =
         after-holds (GoodCall t kind from) (lengthAt t at) NoCall _ (λ p e. tt)
-        (λ n start e. let w = length-part t at n start e in record { later = omega (arith, w .later); ends = w .ends; fits = (no, (w .ends, w .most)) })
+        (λ n start e. let w = length-part t at n start e in record { body = at; number = there 1 q; later = omega (arith, w .later, after); ends = w .ends; fits = (no, (w .ends, w .most)) })
 
-    writer-good : (place number : ℕ) → at ≤ length t → GoodCall t kind from (writerCall t place number at)
+    writer-good : (place : ℕ) → GoodCall t kind from (writerCall t place number at)
     unfolding writerCall
-    writer-good place number h =
-        pick-holds (GoodCall t kind from) (eqb number 0) _ _ (λ _. write-good)
-        (λ _. pick-holds (GoodCall t kind from) (eqb number 1) _ _ (λ _. write-all-good)
-        (λ _. pick-holds (GoodCall t kind from) (eqb number 2) _ _ (λ _. record { later = after; ends = h; fits = no })
+    writer-good place =
+        pick-holds (GoodCall t kind from) (eqb number 0) _ _ (λ e. write-good (eqb-true number 0 e))
+        (λ _. pick-holds (GoodCall t kind from) (eqb number 1) _ _ (λ e. write-all-good (eqb-true number 1 e))
+        (λ _. pick-holds (GoodCall t kind from) (eqb number 2) _ _ (λ e. record { body = at; number = there 2 (eqb-true number 2 e); later = after; ends = most-places t from 7 number at here .1; fits = no })
         (λ _. tt)))
 
   module _ (is : kind ≡ 2) where
-    read-good : GoodCall t kind from (readAt t at)
+    read-good : number ≡ 3 → GoodCall t kind from (readAt t at)
     unfolding readAt
-    read-good =
+    read-good q =
         after-holds (GoodCall t kind from) (numberMost t at bytesMost) NoCall _ (λ p e. tt)
-        (λ n next e. let w = most-places t at bytesMost n next e in record { later = omega arith; ends = w .1; fits = (is, most-value t at bytesMost n next e .1) })
+        (λ n next e. let w = most-places t at bytesMost n next e in record { body = at; number = there 3 q; later = omega (arith, after); ends = w .1; fits = (is, most-value t at bytesMost n next e .1) })
 
-    peek-good : GoodCall t kind from (peekAt t at)
+    peek-good : number ≡ 4 → GoodCall t kind from (peekAt t at)
     unfolding peekAt
-    peek-good =
+    peek-good q =
         after-holds (GoodCall t kind from) (numberMost t at wordMost) NoCall _ (λ p e. tt)
-        (λ n next e. let w = most-places t at wordMost n next e in record { later = omega arith; ends = w .1; fits = (is, most-value t at wordMost n next e .1) })
+        (λ n next e. let w = most-places t at wordMost n next e in record { body = at; number = there 4 q; later = omega (arith, after); ends = w .1; fits = (is, most-value t at wordMost n next e .1) })
 
-    consume-good : GoodCall t kind from (consumeAt t at)
+    consume-good : number ≡ 5 → GoodCall t kind from (consumeAt t at)
     unfolding consumeAt
-    consume-good =
+    consume-good q =
         after-holds (GoodCall t kind from) (numberMost t at wordMost) NoCall _ (λ p e. tt)
-        (λ n next e. let w = most-places t at wordMost n next e in record { later = omega arith; ends = w .1; fits = (is, most-value t at wordMost n next e .1) })
+        (λ n next e. let w = most-places t at wordMost n next e in record { body = at; number = there 5 q; later = omega (arith, after); ends = w .1; fits = (is, most-value t at wordMost n next e .1) })
 
-    size-good : (direction place : ℕ) → at ≤ place → GoodCall t kind from (sizeAt t direction place)
+    size-good : (direction place : ℕ) → number ≡ 6 → at ≤ place → GoodCall t kind from (sizeAt t direction place)
     unfolding sizeAt
-    size-good direction place h =
+    size-good direction place q h =
         after-holds (GoodCall t kind from) (numberMost t place wordMost) NoCall _ (λ p e. tt)
         (λ size next e.
         let w = most-places t place wordMost size next e in
         let small = most-value t place wordMost size next e .1 in
         pick-holds (GoodCall t kind from) (eqb direction 0) _ _
-        (λ _. record { later = omega arith; ends = w .1; fits = (is, (small, λ f. absurd (true-false f))) })
+        (λ _. record { body = at; number = there 6 q; later = omega (arith, after); ends = w .1; fits = (is, (small, λ f. absurd (true-false f))) })
         (λ _. pick-holds (GoodCall t kind from) (eqb size 0) _ _ (λ _. tt)
-        (λ z. record { later = omega arith; ends = w .1; fits = (is, (small, λ f. omega (arith, eqb-false size 0 z))) })))
+        (λ z. record { body = at; number = there 6 q; later = omega (arith, after); ends = w .1; fits = (is, (small, λ f. omega (arith, eqb-false size 0 z))) })))
 
-    seek-good : GoodCall t kind from (seekAt t at)
+    seek-good : number ≡ 6 → GoodCall t kind from (seekAt t at)
     unfolding seekAt
-    seek-good =
+    seek-good q =
         after-holds (GoodCall t kind from) (numberMost t at 1) NoCall _ (λ p e. tt)
-        (λ direction next e. let w = most-places t at 1 direction next e in size-good direction next (omega arith))
+        (λ direction next e. let w = most-places t at 1 direction next e in size-good direction next q (omega arith))
 
-    reader-good : (place number : ℕ) → at ≤ length t → GoodCall t kind from (readerCall t place number at)
+    reader-good : (place : ℕ) → GoodCall t kind from (readerCall t place number at)
     unfolding readerCall
-    reader-good place number h =
-        pick-holds (GoodCall t kind from) (eqb number 3) _ _ (λ _. read-good)
-        (λ _. pick-holds (GoodCall t kind from) (eqb number 4) _ _ (λ _. peek-good)
-        (λ _. pick-holds (GoodCall t kind from) (eqb number 5) _ _ (λ _. consume-good)
-        (λ _. pick-holds (GoodCall t kind from) (eqb number 6) _ _ (λ _. seek-good)
-        (λ _. pick-holds (GoodCall t kind from) (eqb number 7) _ _ (λ _. record { later = after; ends = h; fits = is })
+    reader-good place =
+        pick-holds (GoodCall t kind from) (eqb number 3) _ _ (λ e. read-good (eqb-true number 3 e))
+        (λ _. pick-holds (GoodCall t kind from) (eqb number 4) _ _ (λ e. peek-good (eqb-true number 4 e))
+        (λ _. pick-holds (GoodCall t kind from) (eqb number 5) _ _ (λ e. consume-good (eqb-true number 5 e))
+        (λ _. pick-holds (GoodCall t kind from) (eqb number 6) _ _ (λ e. seek-good (eqb-true number 6 e))
+        (λ _. pick-holds (GoodCall t kind from) (eqb number 7) _ _ (λ e. record { body = at; number = there 7 (eqb-true number 7 e); later = after; ends = most-places t from 7 number at here .1; fits = is })
         (λ _. tt)))))
 
-pub call-good : (t : List ℕ) (kind at : ℕ) → GoodCall t kind at (callAt t kind at)
+call-good : (t : List ℕ) (kind at : ℕ) → GoodCall t kind at (callAt t kind at)
 unfolding callAt
 call-good t kind at =
     after-holds (GoodCall t kind at) (numberMost t at 7) NoCall _ (λ p e. tt)
     (λ number next e.
-    let w = most-places t at 7 number next e in
     pick-holds (GoodCall t kind at) (eqb kind 2) _ _
-    (λ k. reader-good t kind at next (w .0) (eqb-true kind 2 k) at number (w .1))
-    (λ k. writer-good t kind at next (w .0) (eqb-false kind 2 k) at number (w .1)))
+    (λ k. reader-good t kind at number next e (eqb-true kind 2 k) at)
+    (λ k. writer-good t kind at number next e (eqb-false kind 2 k) at))
 
 -- of a call that is read
 pub within : (t : List ℕ) (kind at : ℕ) (call : Call) (next : ℕ) → callAt t kind at ≡ Found call next → CallWithin t kind at call next

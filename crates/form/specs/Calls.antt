@@ -40,6 +40,17 @@ asked bytes (Consume n) = consume n
 asked bytes (Seek back size) = seek-relative back size
 asked bytes Fill = fill
 
+-- the number of each, as document 01 gives it
+abbrev pub callNumber : Asked → ℕ
+callNumber (write bytes) = 0
+callNumber (write-all bytes) = 1
+callNumber flush = 2
+callNumber (read n) = 3
+callNumber (peek n) = 4
+callNumber (consume n) = 5
+callNumber (seek-relative back size) = 6
+callNumber fill = 7
+
 -- Length and bytes: the length, and the place of its bytes. A length over 16,384 is a fault at the length, before its bytes.
 -- Too few bytes: the input's length
 unfoldable pub lengthAt : List ℕ → ℕ → Number
