@@ -8,7 +8,7 @@ use Prim.Native.Nat.{ℕ, zero, suc, _+_, _≤_, _<_}
 use native.Mathlib.Omega.{arith}
 use lib.Dec.{eqb, ltb}
 use lib.ListN.{length, take, drop, length-take, length-drop}
-use borrow.Author.Tests.{eqb-false, ltb-false}
+use borrow.Author.Tests.{eqb-false, ltb-true, ltb-false}
 use Rattle.laws.proofs.Picks.{pick-holds}
 use Rattle.card.specs.Limits.{bytesMost, capacityMost, scriptMost}
 use Rattle.numbers.specs.declared.Number.the-variants.{Value}
@@ -24,7 +24,8 @@ use Rattle.form.specs.Lists.{Listed, listed, stopped, before, afterAll}
 use Rattle.form.specs.Replies.{wordMost, repliesFrom, repliesIn}
 use Rattle.form.specs.Calls.{Asked, write, write-all, flush, read, peek, consume, seek-relative, fill, asked, callAt, afterCall, callsFrom}
 use Rattle.form.specs.Session.{sessionMost, callsMost, Parsed, fault, traced, session, stockOf, callsOf, countAt, stockAt, scriptAt, repliesAt, capacityAt, sessionOf, checked}
-use Rattle.form.proofs.Within.{Fits, CallWithin, within, stock-part}
+use Rattle.form.proofs.Places.{fault-in}
+use Rattle.form.proofs.Within.{Fits, CallWithin, within, call-fault-in, stock-part, stock-fault-in}
 use Rattle.form.proofs.Walks.{Next, next-of, no-list, call-next, call-fault, call-none}
 
 -- a check's answer, back to what the definition says
@@ -79,13 +80,13 @@ pub record Replies (t : List ℕ) (left at : ℕ) (replies : List ℕ) (end : �
 
 abbrev GoodReplies : List ℕ → ℕ → ℕ → Listed ℕ → Type 0
 GoodReplies t left at (listed replies end) = Replies t left at replies end
-GoodReplies t left at (stopped place) = Unit
+GoodReplies t left at (stopped place) = at ≤ length t → place ≤ length t
 
 replies-good : (t : List ℕ) (left at : ℕ) → GoodReplies t left at (repliesFrom t left at)
 unfolding repliesFrom repliesIn
 replies-good t zero at = record { are = refl; words = tt; later = omega arith; ends = λ h. h; these = refl }
 replies-good t (suc left) at =
-    after-holds (GoodReplies t (suc left) at) (numberMost t at wordMost) stopped _ (λ p e. tt)
+    after-holds (GoodReplies t (suc left) at) (numberMost t at wordMost) stopped _ (λ p e h. fault-in t at wordMost p e h)
     (λ reply next e. more reply next e (repliesFrom t left next) (replies-good t left next))
   where
     more : (reply next : ℕ) → numberMost t at wordMost ≡ Value reply next → (l : Listed ℕ) → GoodReplies t left next l → GoodReplies t (suc left) at (before reply l)
@@ -98,10 +99,13 @@ replies-good t (suc left) at =
           ends = λ h. g .ends (w .1);
           these = rw e (ap (λ (l : List ℕ). reply ∷ l) (g .these));
         }
-    more reply next e (stopped place) g = tt
+    more reply next e (stopped place) g = λ h. g (most-places t at wordMost reply next e .1)
 
 pub replies-are : (t : List ℕ) (left at : ℕ) (replies : List ℕ) (end : ℕ) → repliesFrom t left at ≡ listed replies end → Replies t left at replies end
 replies-are t left at replies end e = rw e at (replies-good t left at)
+
+replies-fault-in : (t : List ℕ) (left at place : ℕ) → repliesFrom t left at ≡ stopped place → at ≤ length t → place ≤ length t
+replies-fault-in t left at place e h = (rw e at (replies-good t left at)) h
 
 -- The calls that are read: so many, each one that the kind has and within its limits, in the session
 abbrev pub FitsAsked : ℕ → Asked → Type 0
@@ -140,13 +144,13 @@ pub record Calls (t : List ℕ) (kind left at : ℕ) (calls : List Asked) (end :
 
 abbrev GoodCalls : List ℕ → ℕ → ℕ → ℕ → Listed Asked → Type 0
 GoodCalls t kind left at (listed calls end) = Calls t kind left at calls end
-GoodCalls t kind left at (stopped place) = Unit
+GoodCalls t kind left at (stopped place) = at ≤ length t → place ≤ length t
 
 calls-good : (t : List ℕ) (kind left at : ℕ) → GoodCalls t kind left at (callsFrom t kind left at)
 unfolding callsFrom
 calls-good t kind zero at = record { are = refl; fit = tt; later = omega arith; ends = λ h. h }
 calls-good t kind (suc left) at =
-    call-holds (GoodCalls t kind (suc left) at) (callAt t kind at) stopped _ (λ p e. tt)
+    call-holds (GoodCalls t kind (suc left) at) (callAt t kind at) stopped _ (λ p e h. call-fault-in t kind at p e h)
     (λ call next e. more call next (within t kind at call next e) (callsFrom t kind left next) (calls-good t kind left next))
   where
     more : (call : Call) (next : ℕ) → CallWithin t kind at call next → (l : Listed Asked) → GoodCalls t kind left next l → GoodCalls t kind (suc left) at (before (asked t call) l)
@@ -156,10 +160,13 @@ calls-good t kind (suc left) at =
       later = omega (arith, w .later, g .later);
       ends = λ h. g .ends (w .ends);
     }
-    more call next w (stopped place) g = tt
+    more call next w (stopped place) g = λ h. g (w .ends)
 
 pub calls-are : (t : List ℕ) (kind left at : ℕ) (calls : List Asked) (end : ℕ) → callsFrom t kind left at ≡ listed calls end → Calls t kind left at calls end
 calls-are t kind left at calls end e = rw e at (calls-good t kind left at)
+
+calls-fault-in : (t : List ℕ) (kind left at place : ℕ) → callsFrom t kind left at ≡ stopped place → at ≤ length t → place ≤ length t
+calls-fault-in t kind left at place e h = (rw e at (calls-good t kind left at)) h
 
 -- A session without a fault: its header's numbers and places, its replies, its stock, and its calls, which are those from the
 -- first call's place on, up to the session's end
@@ -188,20 +195,28 @@ pub record Trace (t : List ℕ) (start : ℕ) (trace : List ℕ) : Type 0 where
   pub start-in : start ≤ length t
   pub is : trace ≡ drop start t
 
+-- A session with a fault: the place lies in the input or at its end, and is at most 32,768
+pub record Refused (t : List ℕ) (place : ℕ) : Type 0 where
+  pub place-in : place ≤ length t
+  pub place-most : place ≤ sessionMost
+
 -- of whatever a session says
 abbrev GoodSession : List ℕ → Parsed → Type 0
-GoodSession t (fault place) = Unit
+GoodSession t (fault place) = Refused t place
 GoodSession t (traced start trace) = Trace t start trace
 GoodSession t (session header replies stock calls) = Whole t header replies stock calls
 
 module _ (t : List ℕ) (short : length t ≤ sessionMost) (kind : ℕ) (kind-most : kind ≤ 2) where
+  refuse : (place : ℕ) → place ≤ length t → Refused t place
+  refuse place h = record { place-in = h; place-most = omega arith }
+
   module _ (capacity count script at : ℕ) (replies : List ℕ) (capacity-most : capacity ≤ capacityMost) (count-most : count ≤ scriptMost) (script-in : script ≤ length t) (r : Replies t count script replies at) where
     calls-of-good : (n stock calls first : ℕ) → stockOf t kind at ≡ Value n stock → calls ≤ callsMost → first ≤ length t → GoodSession t (callsOf t (record { kind = kind; capacity = capacity; replies = count; script = script; stock = stock; length = n; count = calls; first = first }) replies)
     unfolding callsOf
     calls-of-good n stock calls first e k h =
-        all-holds (GoodSession t) (callsFrom t kind calls first) fault _ (λ p q. tt)
+        all-holds (GoodSession t) (callsFrom t kind calls first) fault _ (λ p q. refuse p (calls-fault-in t kind calls first p q h))
         (λ all end q.
-        pick-holds (GoodSession t) (ltb end (length t)) _ _ (λ s. tt)
+        pick-holds (GoodSession t) (ltb end (length t)) _ _ (λ s. refuse end (calls-are t kind calls first all end q .ends h))
         (λ s.
         let w = stock-part t kind at n stock e in
         let c = calls-are t kind calls first all end q in
@@ -229,35 +244,38 @@ module _ (t : List ℕ) (short : length t ≤ sessionMost) (kind : ℕ) (kind-mo
     stock-good : GoodSession t (stockAt t kind capacity count script replies at)
     unfolding stockAt countAt
     stock-good =
-        after-holds (GoodSession t) (stockOf t kind at) fault _ (λ p q. tt)
+        after-holds (GoodSession t) (stockOf t kind at) fault _ (λ p q. refuse p (stock-fault-in t kind at p q (r .ends script-in)))
         (λ n stock e.
-        after-holds (GoodSession t) (numberMost t (stock + n) callsMost) fault _ (λ p q. tt)
+        after-holds (GoodSession t) (numberMost t (stock + n) callsMost) fault _ (λ p q. refuse p (fault-in t (stock + n) callsMost p q (stock-part t kind at n stock e .ends (length t) (omega arith) (r .ends script-in))))
         (λ calls first q. calls-of-good n stock calls first e (most-value t (stock + n) callsMost calls first q .1) (most-places t (stock + n) callsMost calls first q .1)))
 
-  capacity-good : (at : ℕ) → GoodSession t (capacityAt t kind at)
+  capacity-good : (at : ℕ) → at ≤ length t → GoodSession t (capacityAt t kind at)
   unfolding capacityAt repliesAt scriptAt
-  capacity-good at =
-      after-holds (GoodSession t) (numberMost t at capacityMost) fault _ (λ p q. tt)
+  capacity-good at h =
+      after-holds (GoodSession t) (numberMost t at capacityMost) fault _ (λ p q. refuse p (fault-in t at capacityMost p q h))
       (λ capacity next e.
-      after-holds (GoodSession t) (numberMost t next scriptMost) fault _ (λ p q. tt)
+      after-holds (GoodSession t) (numberMost t next scriptMost) fault _ (λ p q. refuse p (fault-in t next scriptMost p q (most-places t at capacityMost capacity next e .1)))
       (λ count script q.
-      all-holds (GoodSession t) (repliesFrom t count script) fault _ (λ p l. tt)
+      all-holds (GoodSession t) (repliesFrom t count script) fault _ (λ p l. refuse p (replies-fault-in t count script p l (most-places t next scriptMost count script q .1)))
       (λ replies end l. stock-good capacity count script end replies (most-value t at capacityMost capacity next e .1) (most-value t next scriptMost count script q .1) (most-places t next scriptMost count script q .1) (replies-are t count script replies end l))))
 
 session-good : (t : List ℕ) → GoodSession t (sessionOf t)
 unfolding sessionOf
 session-good t =
-    pick-holds (GoodSession t) (ltb sessionMost (length t)) _ _ (λ s. tt)
+    pick-holds (GoodSession t) (ltb sessionMost (length t)) _ _ (λ s. record { place-in = omega (arith, ltb-true sessionMost (length t) s); place-most = omega arith })
     (λ s.
     let short : length t ≤ sessionMost = ltb-false sessionMost (length t) s in
-    after-holds (GoodSession t) (numberMost t 0 3) fault _ (λ p q. tt)
+    after-holds (GoodSession t) (numberMost t 0 3) fault _ (λ p q. record { place-in = fault-in t 0 3 p q (omega arith); place-most = omega (arith, fault-in t 0 3 p q (omega arith)) })
     (λ kind next e.
     pick-holds (GoodSession t) (eqb kind 3) _ _
     (λ k. record { short = short; start-in = most-places t 0 3 kind next e .1; is = refl })
-    (λ k. capacity-good t short kind (omega (arith, eqb-false kind 3 k, most-value t 0 3 kind next e .1)) next)))
+    (λ k. capacity-good t short kind (omega (arith, eqb-false kind 3 k, most-value t 0 3 kind next e .1)) next (most-places t 0 3 kind next e .1))))
 
 pub whole : (t : List ℕ) (header : Header) (replies stock : List ℕ) (calls : List Asked) → sessionOf t ≡ session header replies stock calls → Whole t header replies stock calls
 whole t header replies stock calls e = rw e at (session-good t)
+
+pub refused-in : (t : List ℕ) (place : ℕ) → sessionOf t ≡ fault place → Refused t place
+refused-in t place e = rw e at (session-good t)
 
 -- the same of kind 3
 pub record HeldTrace (p : Parsed) (start : ℕ) : Type 0 where

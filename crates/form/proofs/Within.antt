@@ -10,6 +10,7 @@ use lib.ListN.{length}
 use borrow.Author.Tests.{eqb-true, eqb-false, ltb-false}
 use Rattle.laws.proofs.Picks.{pick-holds}
 use Rattle.card.specs.Limits.{bytesMost}
+use Rattle.numbers.specs.declared.Number.{Number}
 use Rattle.numbers.specs.declared.Number.the-variants.{Value, Fault as NoNumber}
 use Rattle.numbers.specs.Number.{numberMost}
 use Rattle.numbers.proofs.Back.{no-value}
@@ -21,6 +22,7 @@ use Rattle.form.specs.declared.CallRead.the-variants.{Found, Fault as No
 use Rattle.form.specs.Replies.{wordMost}
 use Rattle.form.specs.Calls.{asked, callNumber, lengthAt, writeAt, writeAllAt, readAt, peekAt, consumeAt, sizeAt, seekAt, writerCall, readerCall, callAt}
 use Rattle.form.specs.Session.{stockOf}
+use Rattle.form.proofs.Places.{fault-in}
 
 -- A length at place `at`, and its bytes
 pub record Part (t : List ℕ) (at n start : ℕ) : Type 0 where
@@ -40,6 +42,20 @@ length-part t at n start =
     let b : place ≡ start = cc in
     record { later = omega arith; ends = omega (arith, ltb-false (length t - place) k s); most = omega (arith, most-value t at bytesMost k place e .1) }))
 
+-- of a fault
+abbrev pub FaultIn : List ℕ → Number → Type 0
+FaultIn t (Value n start) = Unit
+FaultIn t (NoNumber place) = place ≤ length t
+
+length-in : (t : List ℕ) (at : ℕ) → at ≤ length t → FaultIn t (lengthAt t at)
+unfolding lengthAt
+length-in t at h =
+    after-holds (FaultIn t) (numberMost t at bytesMost) NoNumber _ (λ p e. fault-in t at bytesMost p e h)
+    (λ n start e. pick-holds (FaultIn t) (ltb (length t - start) n) (NoNumber (length t)) (Value n start) (λ _. omega arith) (λ _. tt))
+
+pub length-fault-in : (t : List ℕ) (at place : ℕ) → lengthAt t at ≡ NoNumber place → at ≤ length t → place ≤ length t
+length-fault-in t at place e h = rw e at (length-in t at h)
+
 -- The stock lies where the session and the place before it lie, and a writer has none
 pub record Stock (t : List ℕ) (kind at n stock : ℕ) : Type 0 where
   pub later : at ≤ stock
@@ -56,6 +72,10 @@ stock-part t kind at n stock =
     let a : 0 ≡ n = cc in
     let b : at ≡ stock = cc in
     record { later = omega arith; most = omega arith; ends = λ bound h l. omega arith; none = λ no. omega arith })
+
+pub stock-fault-in : (t : List ℕ) (kind at place : ℕ) → stockOf t kind at ≡ NoNumber place → at ≤ length t → place ≤ length t
+unfolding stockOf
+stock-fault-in t kind at place e h = rw e at (pick-holds (FaultIn t) (eqb kind 2) (lengthAt t at) (Value 0 at) (λ _. length-in t at h) (λ _. tt))
 
 -- What a call of a kind can ask for: writers' calls where the kind is not 2, a reader's where it is
 abbrev pub Fits : List ℕ → ℕ → Call → Type 0
@@ -79,7 +99,7 @@ pub record CallWithin (t : List ℕ) (kind at : ℕ) (call : Call) (next : ℕ) 
 -- of whatever is read
 abbrev GoodCall : List ℕ → ℕ → ℕ → CallRead → Type 0
 GoodCall t kind at (Found call next) = CallWithin t kind at call next
-GoodCall t kind at (NoCall place) = Unit
+GoodCall t kind at (NoCall place) = at ≤ length t → place ≤ length t
 
 true-false : _≡_ {A = Bool} false true → ⊥
 true-false e =
@@ -94,83 +114,90 @@ module _ (t : List ℕ) (kind from number at : ℕ) (here : numberMost t from 7 
   after : from < at
   after = most-places t from 7 number at here .0
 
+  inside : at ≤ length t
+  inside = most-places t from 7 number at here .1
+
   module _ (no : kind ≡ 2 → ⊥) where
     write-good : number ≡ 0 → GoodCall t kind from (writeAt t at)
     unfolding writeAt
     write-good q =
-        after-holds (GoodCall t kind from) (lengthAt t at) NoCall _ (λ p e. tt)
+        after-holds (GoodCall t kind from) (lengthAt t at) NoCall _ (λ p e h. length-fault-in t at p e inside)
         (λ n start e. let w = length-part t at n start e in record { body = at; number = there 0 q; later = omega (arith, w .later, after); ends = w .ends; fits = (no, (w .ends, w .most)) })
 
     write-all-good : number ≡ 1 → GoodCall t kind from (writeAllAt t at)
     unfolding writeAllAt
     write-all-good q =
-        after-holds (GoodCall t kind from) (lengthAt t at) NoCall _ (λ p e. tt)
+        after-holds (GoodCall t kind from) (lengthAt t at) NoCall _ (λ p e h. length-fault-in t at p e inside)
         (λ n start e. let w = length-part t at n start e in record { body = at; number = there 1 q; later = omega (arith, w .later, after); ends = w .ends; fits = (no, (w .ends, w .most)) })
 
-    writer-good : (place : ℕ) → GoodCall t kind from (writerCall t place number at)
+    writer-good : GoodCall t kind from (writerCall t from number at)
     unfolding writerCall
-    writer-good place =
+    writer-good =
         pick-holds (GoodCall t kind from) (eqb number 0) _ _ (λ e. write-good (eqb-true number 0 e))
         (λ _. pick-holds (GoodCall t kind from) (eqb number 1) _ _ (λ e. write-all-good (eqb-true number 1 e))
-        (λ _. pick-holds (GoodCall t kind from) (eqb number 2) _ _ (λ e. record { body = at; number = there 2 (eqb-true number 2 e); later = after; ends = most-places t from 7 number at here .1; fits = no })
-        (λ _. tt)))
+        (λ _. pick-holds (GoodCall t kind from) (eqb number 2) _ _ (λ e. record { body = at; number = there 2 (eqb-true number 2 e); later = after; ends = inside; fits = no })
+        (λ _ h. h)))
 
   module _ (is : kind ≡ 2) where
     read-good : number ≡ 3 → GoodCall t kind from (readAt t at)
     unfolding readAt
     read-good q =
-        after-holds (GoodCall t kind from) (numberMost t at bytesMost) NoCall _ (λ p e. tt)
+        after-holds (GoodCall t kind from) (numberMost t at bytesMost) NoCall _ (λ p e h. fault-in t at bytesMost p e inside)
         (λ n next e. let w = most-places t at bytesMost n next e in record { body = at; number = there 3 q; later = omega (arith, after); ends = w .1; fits = (is, most-value t at bytesMost n next e .1) })
 
     peek-good : number ≡ 4 → GoodCall t kind from (peekAt t at)
     unfolding peekAt
     peek-good q =
-        after-holds (GoodCall t kind from) (numberMost t at wordMost) NoCall _ (λ p e. tt)
+        after-holds (GoodCall t kind from) (numberMost t at wordMost) NoCall _ (λ p e h. fault-in t at wordMost p e inside)
         (λ n next e. let w = most-places t at wordMost n next e in record { body = at; number = there 4 q; later = omega (arith, after); ends = w .1; fits = (is, most-value t at wordMost n next e .1) })
 
     consume-good : number ≡ 5 → GoodCall t kind from (consumeAt t at)
     unfolding consumeAt
     consume-good q =
-        after-holds (GoodCall t kind from) (numberMost t at wordMost) NoCall _ (λ p e. tt)
+        after-holds (GoodCall t kind from) (numberMost t at wordMost) NoCall _ (λ p e h. fault-in t at wordMost p e inside)
         (λ n next e. let w = most-places t at wordMost n next e in record { body = at; number = there 5 q; later = omega (arith, after); ends = w .1; fits = (is, most-value t at wordMost n next e .1) })
 
-    size-good : (direction place : ℕ) → number ≡ 6 → at ≤ place → GoodCall t kind from (sizeAt t direction place)
+    size-good : (direction place : ℕ) → number ≡ 6 → at ≤ place → place ≤ length t → GoodCall t kind from (sizeAt t direction place)
     unfolding sizeAt
-    size-good direction place q h =
-        after-holds (GoodCall t kind from) (numberMost t place wordMost) NoCall _ (λ p e. tt)
+    size-good direction place q h l =
+        after-holds (GoodCall t kind from) (numberMost t place wordMost) NoCall _ (λ p e _. fault-in t place wordMost p e l)
         (λ size next e.
         let w = most-places t place wordMost size next e in
         let small = most-value t place wordMost size next e .1 in
         pick-holds (GoodCall t kind from) (eqb direction 0) _ _
         (λ _. record { body = at; number = there 6 q; later = omega (arith, after); ends = w .1; fits = (is, (small, λ f. absurd (true-false f))) })
-        (λ _. pick-holds (GoodCall t kind from) (eqb size 0) _ _ (λ _. tt)
+        (λ _. pick-holds (GoodCall t kind from) (eqb size 0) _ _ (λ _ _. l)
         (λ z. record { body = at; number = there 6 q; later = omega (arith, after); ends = w .1; fits = (is, (small, λ f. omega (arith, eqb-false size 0 z))) })))
 
     seek-good : number ≡ 6 → GoodCall t kind from (seekAt t at)
     unfolding seekAt
     seek-good q =
-        after-holds (GoodCall t kind from) (numberMost t at 1) NoCall _ (λ p e. tt)
-        (λ direction next e. let w = most-places t at 1 direction next e in size-good direction next q (omega arith))
+        after-holds (GoodCall t kind from) (numberMost t at 1) NoCall _ (λ p e h. fault-in t at 1 p e inside)
+        (λ direction next e. let w = most-places t at 1 direction next e in size-good direction next q (omega arith) (w .1))
 
-    reader-good : (place : ℕ) → GoodCall t kind from (readerCall t place number at)
+    reader-good : GoodCall t kind from (readerCall t from number at)
     unfolding readerCall
-    reader-good place =
+    reader-good =
         pick-holds (GoodCall t kind from) (eqb number 3) _ _ (λ e. read-good (eqb-true number 3 e))
         (λ _. pick-holds (GoodCall t kind from) (eqb number 4) _ _ (λ e. peek-good (eqb-true number 4 e))
         (λ _. pick-holds (GoodCall t kind from) (eqb number 5) _ _ (λ e. consume-good (eqb-true number 5 e))
         (λ _. pick-holds (GoodCall t kind from) (eqb number 6) _ _ (λ e. seek-good (eqb-true number 6 e))
-        (λ _. pick-holds (GoodCall t kind from) (eqb number 7) _ _ (λ e. record { body = at; number = there 7 (eqb-true number 7 e); later = after; ends = most-places t from 7 number at here .1; fits = is })
-        (λ _. tt)))))
+        (λ _. pick-holds (GoodCall t kind from) (eqb number 7) _ _ (λ e. record { body = at; number = there 7 (eqb-true number 7 e); later = after; ends = inside; fits = is })
+        (λ _ h. h)))))
 
 call-good : (t : List ℕ) (kind at : ℕ) → GoodCall t kind at (callAt t kind at)
 unfolding callAt
 call-good t kind at =
-    after-holds (GoodCall t kind at) (numberMost t at 7) NoCall _ (λ p e. tt)
+    after-holds (GoodCall t kind at) (numberMost t at 7) NoCall _ (λ p e h. fault-in t at 7 p e h)
     (λ number next e.
     pick-holds (GoodCall t kind at) (eqb kind 2) _ _
-    (λ k. reader-good t kind at number next e (eqb-true kind 2 k) at)
-    (λ k. writer-good t kind at number next e (eqb-false kind 2 k) at))
+    (λ k. reader-good t kind at number next e (eqb-true kind 2 k))
+    (λ k. writer-good t kind at number next e (eqb-false kind 2 k)))
 
 -- of a call that is read
 pub within : (t : List ℕ) (kind at : ℕ) (call : Call) (next : ℕ) → callAt t kind at ≡ Found call next → CallWithin t kind at call next
 within t kind at call next e = rw e at (call-good t kind at)
+
+-- and of a fault
+pub call-fault-in : (t : List ℕ) (kind at place : ℕ) → callAt t kind at ≡ NoCall place → at ≤ length t → place ≤ length t
+call-fault-in t kind at place e h = (rw e at (call-good t kind at)) h

@@ -1,4 +1,5 @@
--- `form::replies::read_replies` meets its contract. Assumes nothing.
+-- `form::replies::read_replies` meets its contract. The loop's invariant is `Filled`: the first replies stand in the script, and the
+-- others are read from here on. Assumes nothing.
 use mathlib.Core.Path.{sym, _∙_}
 use native.Mathlib.Omega.{arith}
 use Prim.Native.Nat.{_-_}

@@ -1,4 +1,4 @@
--- `form::replies::skip` meets its contract. Assumes nothing.
+-- `form::replies::skip` meets its contract. The loop's invariant is `Turn`: the whole ends where the rest ends. Assumes nothing.
 use mathlib.Core.Path.{sym, _∙_}
 use native.Mathlib.Omega.{arith}
 use borrow.Author.Needs.{needs}
