@@ -1,0 +1,4 @@
+pub mod Lists
+pub mod Replies
+pub mod Calls
+pub mod Session
