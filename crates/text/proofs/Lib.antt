@@ -1,0 +1,4 @@
+pub mod Prints
+pub mod Decimals
+pub mod Hexes
+pub mod Saids
