@@ -14,25 +14,25 @@ use Rattle.text.specs.Numbers.{digit, digits, decimalOf}
 use Rattle.text.proofs.Prints.{then, byte-is}
 
 -- below ten
-few : (k n : ℕ) → n < 10 → digits (suc k) n ≡ digit n ∷ []
+pub few : (k n : ℕ) → n < 10 → digits (suc k) n ≡ digit n ∷ []
 unfolding digits
 few k n h = rw (lt-ltb n 10 h) refl
 
 -- from ten on
-many : (k n : ℕ) → 10 ≤ n → digits (suc k) n ≡ digits k (n / 10) ++ (digit (n % 10) ∷ [])
+pub many : (k n : ℕ) → 10 ≤ n → digits (suc k) n ≡ digits k (n / 10) ++ (digit (n % 10) ∷ [])
 unfolding digits
 many k n h = rw (le-ltb _ _ h) refl
 
 -- the tenth part has a digit less
-tenth : (k n : ℕ) → n < 10 ^ suc k → n / 10 < 10 ^ k
+pub tenth : (k n : ℕ) → n < 10 ^ suc k → n / 10 < 10 ^ k
 tenth k n h = let p = pow-suc 10 k in omega arith
 
 -- a number of one digit is below ten
-longer : (k n : ℕ) → n < 10 ^ suc k → 10 ≤ n → 1 ≤ k
+pub longer : (k n : ℕ) → n < 10 ^ suc k → 10 ≤ n → 1 ≤ k
 longer zero n h m = absurd (omega arith)
 longer (suc k) n h m = omega arith
 
-by-ten {ℓ} : {A : Type ℓ} (n : ℕ) → (n < 10 → A) → (10 ≤ n → A) → A
+pub by-ten {ℓ} : {A : Type ℓ} (n : ℕ) → (n < 10 → A) → (10 ≤ n → A) → A
 by-ten n below above = by-test (ltb n 10) (λ e. below (ltb-true n 10 e)) (λ e. above (ltb-false n 10 e))
 
 -- room for more digits changes none

@@ -2,3 +2,8 @@ pub mod Prints
 pub mod Decimals
 pub mod Hexes
 pub mod Saids
+pub mod Back
+pub mod Once
+pub mod Rows
+pub mod Shows
+pub mod Lengths
