@@ -1,13 +1,13 @@
 -- Bytes in hex: the loop that prints two digits a byte.
 -- Assumes nothing.
 use mathlib.Core.Path.{_≡_, refl, sym, ap, _∙_}
-use mathlib.Core.List.{List, [], _∷_, _++_}
+use mathlib.Core.List.{List, [], _∷_}
 use Prim.Native.Nat.{ℕ, _+_, _/_, _%_, _≤_, _<_}
 use native.Mathlib.Numerals.{add-one}
 use native.Mathlib.Omega.{arith}
 use lib.ListN.{length, drop, getD, drop-of-length-le}
 use lib.Seq.{drop-cons}
-use Rattle.text.specs.Printed.{Printed, printed}
+use Rattle.text.specs.Printed.{printed}
 use Rattle.text.specs.Words.{ascii}
 use Rattle.text.specs.Numbers.{digit, hexDigits, hexOf}
 use Rattle.text.proofs.Prints.{after, nothing}

@@ -1,18 +1,18 @@
 -- How long the texts are at most: the room that a whole line wants.
 -- Assumes nothing.
-use mathlib.Core.Path.{_≡_, refl, sym, ap, _∙_}
-use mathlib.Core.List.{List, [], _∷_, _++_}
-use Prim.Native.Nat.{ℕ, zero, suc, _+_, _*_, _/_, _%_, _≤_, _<_}
+use mathlib.Core.Path.{_≡_, refl}
+use mathlib.Core.List.{List, [], _∷_}
+use Prim.Native.Nat.{ℕ, zero, suc, _+_, _*_, _/_, _≤_}
 use native.Mathlib.Omega.{arith}
 use lib.ListN.{length, length-append}
 use Rattle.card.specs.declared.Answer.{Answer}
 use Rattle.card.specs.declared.Answer.the-variants.{Ok, Done, Interrupted, Zero, Whole, Error, Refused}
 use Rattle.text.specs.declared.Name.{Name}
 use Rattle.text.specs.declared.Name.the-variants.{Write, WriteAll, Flush, Read, Peek, Consume, SeekRelative, Fill}
-use Rattle.text.specs.Words.{ascii, nameOf}
-use Rattle.text.specs.Numbers.{digit, digits, decimalOf, hexDigits, hexOf}
+use Rattle.text.specs.Words.{nameOf}
+use Rattle.text.specs.Numbers.{digits, decimalOf, hexDigits, hexOf}
 use Rattle.text.specs.Answers.{answerOf}
-use Rattle.text.specs.Lines.{sessionLine, callOf, writerCalls, writerLine, readerLine, writerEnd, readerEnd, judgePossible, judgeImpossible, judgeRefused, sessionRefused}
+use Rattle.text.specs.Lines.{sessionLine, callOf, writerCalls, writerLine, readerLine, writerEnd, readerEnd, judgeRefused, sessionRefused}
 use Rattle.text.proofs.Decimals.{few, many, by-ten}
 use Rattle.text.proofs.Saids.{said-ok, said-done, said-interrupted, said-zero, said-whole, said-error, said-refused}
 

@@ -1,9 +1,8 @@
 -- An answer's text, for each answer.
 -- Assumes nothing.
 use mathlib.Core.Path.{_≡_, refl}
-use mathlib.Core.List.{List, [], _∷_, _++_, append-nil}
+use mathlib.Core.List.{_++_, append-nil}
 use Prim.Native.Nat.{ℕ}
-use Rattle.card.specs.declared.Answer.{Answer}
 use Rattle.card.specs.declared.Answer.the-variants.{Ok, Done, Interrupted, Zero, Whole, Error, Refused}
 use Rattle.text.specs.Words.{ascii}
 use Rattle.text.specs.Numbers.{decimalOf}

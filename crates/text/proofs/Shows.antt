@@ -1,15 +1,14 @@
 -- What stands in the output when a text is printed: for whoever shows it.
 -- Assumes nothing.
-use mathlib.Core.Path.{_≡_, refl, sym, ap, _∙_}
-use mathlib.Core.List.{List, [], _∷_, _++_}
-use Prim.Native.Nat.{ℕ, _+_, _-_, _≤_, min}
-use native.Mathlib.Nat.{zero-add}
+use mathlib.Core.Path.{_≡_, refl, ap, _∙_}
+use mathlib.Core.List.{List, _++_}
+use Prim.Native.Nat.{ℕ, _+_, _≤_}
 use native.Mathlib.Omega.{arith}
-use lib.ListN.{length, take, drop, length-take}
-use lib.Seq.{take-length, take-at}
+use lib.ListN.{length, take, drop}
+use lib.Seq.{take-length}
 use Rattle.laws.specs.Put.{put}
-use Rattle.laws.proofs.Puts.{put-none, take-put, drop-put, opened}
-use Rattle.text.specs.Printed.{Printed, printed, fitting}
+use Rattle.laws.proofs.Puts.{put-none, take-put, drop-put}
+use Rattle.text.specs.Printed.{printed, fitting}
 use Rattle.text.proofs.Prints.{prints}
 
 -- past the output's end nothing moves

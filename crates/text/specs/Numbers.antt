@@ -2,6 +2,7 @@
 -- Assumes nothing.
 use Prim.Native.Nat.{ℕ, zero, suc, _+_, _-_, _/_, _%_}
 use Prim.Native.Char.{code}
+use Prim.Native.String.{String}
 use mathlib.Core.List.{List, [], _∷_, _++_}
 use lib.Dec.{ltb}
 use Rattle.laws.specs.Pick.{pick}
@@ -30,3 +31,10 @@ hexDigits (byte ∷ rest) = digit (byte / 16) ∷ digit (byte % 16) ∷ hexDigit
 unfoldable pub hexOf : List ℕ → List ℕ
 hexOf [] = ascii "-"
 hexOf (byte ∷ rest) = hexDigits (byte ∷ rest)
+
+-- words, and after them a number in decimal or bytes in hex
+abbrev pub withNumber : String → ℕ → List ℕ
+withNumber words n = ascii words ++ decimalOf n
+
+abbrev pub withHex : String → List ℕ → List ℕ
+withHex words shown = ascii words ++ hexOf shown

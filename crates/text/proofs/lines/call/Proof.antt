@@ -1,4 +1,5 @@
 -- `text::lines::call` meets its contract. Assumes nothing.
+use mathlib.Core.Path.{refl}
 use borrow.Author.Needs.{needs}
 use Rattle.text.specs.Lines.{callOf}
 use Rattle.text.proofs.Prints.{then}
@@ -6,16 +7,16 @@ use Rattle.text.proofs.lines.call.Statement.{statement}
 use Rattle.text.proofs.lines.call.Tie as tie
 
 name-requires : tie.Need-name-requires
-name-requires c κs = search needs
+name-requires c κs = tt
 
 slice-aggregate-say : tie.Need-slice-aggregate-say
-slice-aggregate-say c = search needs
+slice-aggregate-say c = refl
 
 say-requires : tie.Need-say-requires
-say-requires c κs = search needs
+say-requires c κs = tt
 
 answer-requires : tie.Need-answer-requires
-answer-requires c κs = search needs
+answer-requires c κs = tt
 
 same-length : tie.Need-same-length
 same-length c = search needs

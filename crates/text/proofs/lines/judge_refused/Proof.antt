@@ -1,4 +1,5 @@
 -- `text::lines::judge_refused` meets its contract. Assumes nothing.
+use mathlib.Core.Path.{refl}
 use borrow.Author.Needs.{needs}
 use Rattle.text.specs.Lines.{judgeRefused}
 use Rattle.text.proofs.Prints.{then}
@@ -6,16 +7,16 @@ use Rattle.text.proofs.lines.judge_refused.Statement.{statement}
 use Rattle.text.proofs.lines.judge_refused.Tie as tie
 
 slice-aggregate-say-number : tie.Need-slice-aggregate-say-number
-slice-aggregate-say-number c = search needs
+slice-aggregate-say-number c = refl
 
 say-number-requires : tie.Need-say-number-requires
-say-number-requires c κs = search needs
+say-number-requires c κs = tt
 
 slice-aggregate-say : tie.Need-slice-aggregate-say
-slice-aggregate-say c = search needs
+slice-aggregate-say c = refl
 
 say-requires : tie.Need-say-requires
-say-requires c κs = search needs
+say-requires c κs = tt
 
 same-length : tie.Need-same-length
 same-length c = search needs

@@ -1,4 +1,4 @@
--- `text::parts::decimal` meets its contract. Assumes nothing.
+-- `text::parts::decimal` meets its contract. It calls itself on the tenth part: the measure is the number. Assumes nothing.
 use Prim.Native.Nat.{ℕ, _<_}
 use native.Mathlib.Omega.{arith}
 use borrow.Author.Needs.{needs}

@@ -1,4 +1,5 @@
 -- `text::parts::hex` meets its contract. Assumes nothing.
+use mathlib.Core.Path.{refl}
 use borrow.Author.Needs.{needs}
 use Rattle.text.proofs.Prints.{same-text}
 use Rattle.text.proofs.Hexes.{none, some}
@@ -6,10 +7,10 @@ use Rattle.text.proofs.parts.hex.Statement.{statement}
 use Rattle.text.proofs.parts.hex.Tie as tie
 
 slice-aggregate-say : tie.Need-slice-aggregate-say
-slice-aggregate-say c = search needs
+slice-aggregate-say c = refl
 
 say-requires : tie.Need-say-requires
-say-requires c κs = search needs
+say-requires c κs = tt
 
 same-length : tie.Need-same-length
 same-length c = search needs
@@ -18,7 +19,7 @@ returns : tie.Need-returns
 returns c = same-text _ _ _ _ (c .before .before .say .ensures) (none _ (c .before .before .before .before .before .if1 .taken))
 
 hex-digits-requires : tie.Need-hex-digits-requires
-hex-digits-requires c κs = search needs
+hex-digits-requires c κs = tt
 
 same-length-2 : tie.Need-same-length-2
 same-length-2 c = search needs

@@ -8,13 +8,13 @@ digit-byte-requires : tie.Need-digit-byte-requires
 digit-byte-requires c κs = search needs
 
 byte-requires : tie.Need-byte-requires
-byte-requires c κs = search needs
+byte-requires c κs = tt
 
 digit-byte-requires-2 : tie.Need-digit-byte-requires-2
 digit-byte-requires-2 c κs = search needs
 
 byte-requires-2 : tie.Need-byte-requires-2
-byte-requires-2 c κs = search needs
+byte-requires-2 c κs = tt
 
 same-length : tie.Need-same-length
 same-length c = search needs

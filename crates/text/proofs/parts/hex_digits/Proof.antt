@@ -1,4 +1,4 @@
--- `text::parts::hex_digits` meets its contract. Assumes nothing.
+-- `text::parts::hex_digits` meets its contract. The loop's invariant: what is left to print makes the whole. Assumes nothing.
 use Prim.Native.Nat.{_-_}
 use native.Mathlib.Omega.{arith}
 use lib.ListN.{length}

@@ -5,10 +5,10 @@ use Rattle.text.proofs.parts.say_hex.Statement.{statement}
 use Rattle.text.proofs.parts.say_hex.Tie as tie
 
 say-requires : tie.Need-say-requires
-say-requires c κs = search needs
+say-requires c κs = tt
 
 hex-requires : tie.Need-hex-requires
-hex-requires c κs = search needs
+hex-requires c κs = tt
 
 same-length : tie.Need-same-length
 same-length c = search needs

@@ -5,10 +5,10 @@ use Rattle.text.proofs.parts.say_number.Statement.{statement}
 use Rattle.text.proofs.parts.say_number.Tie as tie
 
 say-requires : tie.Need-say-requires
-say-requires c κs = search needs
+say-requires c κs = tt
 
 decimal-requires : tie.Need-decimal-requires
-decimal-requires c κs = search needs
+decimal-requires c κs = tt
 
 same-length : tie.Need-same-length
 same-length c = search needs
