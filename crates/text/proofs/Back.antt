@@ -1,4 +1,4 @@
--- A number in decimal reads back as the number, and has no leading zero.
+-- A number in decimal is digits, reads back as the number, and has no leading zero.
 -- Assumes nothing.
 use mathlib.Core.Path.{_≡_, refl, sym, ap, _∙_}
 use mathlib.Core.List.{List, [], _∷_, _++_}
@@ -73,3 +73,32 @@ no-leading-zero n h o = first-digit 20 n h o
 pub zero-is : decimalOf 0 ≡ ascii "0"
 unfolding decimalOf digits
 zero-is = refl
+
+-- a byte that is a decimal digit
+abbrev pub Digit : ℕ → Type 0
+Digit b = (code "0" ≤ b) × (b ≤ code "9")
+
+-- all bytes of a list are
+abbrev pub Digits : List ℕ → Type 0
+Digits [] = Unit
+Digits (b ∷ rest) = Digit b × Digits rest
+
+is-digit : (d : ℕ) → d < 10 → Digit (digit d)
+is-digit d h = rw (ten-digit d h) (omega arith, omega arith)
+
+append-digits : (s t : List ℕ) → Digits s → Digits t → Digits (s ++ t)
+append-digits [] t p q = q
+append-digits (b ∷ s) t p q = (p .0, append-digits s t (p .1) q)
+
+only-digits : (k n : ℕ) → Digits (digits k n)
+unfolding digits
+only-digits zero n = tt
+only-digits (suc k) n =
+    by-ten n
+    (λ l. rw (few k n l) (is-digit n l, tt))
+    (λ m. rw (many k n m) (append-digits (digits k (n / 10)) (digit (n % 10) ∷ []) (only-digits k (n / 10)) (is-digit (n % 10) (omega arith), tt)))
+
+-- a number in decimal is digits and nothing else
+pub decimal-digits : (n : ℕ) → Digits (decimalOf n)
+unfolding decimalOf
+decimal-digits n = only-digits 20 n
