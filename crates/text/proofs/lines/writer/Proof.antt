@@ -1,0 +1,59 @@
+-- `text::lines::writer` meets its contract. Assumes nothing.
+use mathlib.Core.Path.{refl}
+use borrow.Author.Needs.{needs}
+use Rattle.text.specs.Lines.{writerLine}
+use Rattle.text.proofs.Prints.{then}
+use Rattle.text.proofs.lines.writer.Statement.{statement}
+use Rattle.text.proofs.lines.writer.Tie as tie
+
+call-requires : tie.Need-call-requires
+call-requires c κs = tt
+
+writer-calls-requires : tie.Need-writer-calls-requires
+writer-calls-requires c κs = tt
+
+slice-aggregate-say-number : tie.Need-slice-aggregate-say-number
+slice-aggregate-say-number c = refl
+
+say-number-requires : tie.Need-say-number-requires
+say-number-requires c κs = tt
+
+slice-aggregate-say-number-2 : tie.Need-slice-aggregate-say-number-2
+slice-aggregate-say-number-2 c = refl
+
+say-number-requires-2 : tie.Need-say-number-requires-2
+say-number-requires-2 c κs = tt
+
+slice-aggregate-say : tie.Need-slice-aggregate-say
+slice-aggregate-say c = refl
+
+say-requires : tie.Need-say-requires
+say-requires c κs = tt
+
+same-length : tie.Need-same-length
+same-length c = search needs
+
+returns : tie.Need-returns
+unfolding writerLine
+returns c =
+    let end = c .before .before in
+    let out = end .before .before .before .before .before in
+    let held = out .before .before .before .before .before in
+    let calls = held .before .before .before .before .before in
+    let call = calls .before .before .before .before in
+    then _ _ _ _ (then _ _ _ _ (then _ _ _ _ (then _ _ _ _ (call .call .ensures) (calls .writer-calls .ensures)) (held .say-number .ensures)) (out .say-number2 .ensures)) (end .say .ensures)
+
+pub writer-spec : {M : Type 1} → statement M
+writer-spec =
+    tie.close
+    (tie.spec
+    call-requires
+    writer-calls-requires
+    slice-aggregate-say-number
+    say-number-requires
+    slice-aggregate-say-number-2
+    say-number-requires-2
+    slice-aggregate-say
+    say-requires
+    same-length
+    returns)

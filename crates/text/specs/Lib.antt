@@ -1,0 +1,5 @@
+pub mod Printed
+pub mod Words
+pub mod Numbers
+pub mod Answers
+pub mod Lines
