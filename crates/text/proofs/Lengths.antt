@@ -12,6 +12,7 @@ use Rattle.text.specs.declared.Name.the-variants.{Write, WriteAll, Flush
 use Rattle.text.specs.Words.{nameOf}
 use Rattle.text.specs.Numbers.{digits, decimalOf, hexDigits, hexOf}
 use Rattle.text.specs.Answers.{answerOf}
+use Rattle.card.specs.Answers.{said}
 use Rattle.text.specs.Lines.{sessionLine, callOf, writerCalls, writerLine, readerLine, writerEnd, readerEnd, judgeRefused, sessionRefused}
 use Rattle.text.proofs.Decimals.{few, many, by-ten}
 use Rattle.text.proofs.Saids.{said-ok, said-done, said-interrupted, said-zero, said-whole, said-error, said-refused}
@@ -61,19 +62,19 @@ pub session-most : (kind capacity : ℕ) → length (sessionLine kind capacity) 
 unfolding sessionLine
 session-most kind capacity = simp length-append (omega (arith, decimal-most kind, decimal-most capacity))
 
-call-most : (name : Name) (answer : Answer) → length (callOf name answer) ≤ 42
-unfolding callOf
+call-most : (name : Name) (answer : Answer) → length (callOf name (said answer)) ≤ 42
+unfolding callOf answerOf
 call-most name answer = simp length-append (omega (arith, name-most name, answer-most answer))
 
 writer-calls-most : (calls : ℕ) → length (writerCalls calls) ≤ 27
 unfolding writerCalls
 writer-calls-most calls = simp length-append (omega (arith, decimal-most calls))
 
-pub writer-most : (name : Name) (answer : Answer) (calls held out : ℕ) → length (writerLine name answer calls held out) ≤ 121
+pub writer-most : (name : Name) (answer : Answer) (calls held out : ℕ) → length (writerLine name (said answer) calls held out) ≤ 121
 unfolding writerLine
 writer-most name answer calls held out = simp length-append (omega (arith, call-most name answer, writer-calls-most calls, decimal-most held, decimal-most out))
 
-pub reader-most : (name : Name) (answer : Answer) (calls pos filled : ℕ) (bytes : List ℕ) → length (readerLine name answer calls pos filled bytes) ≤ 131 + 2 * length bytes
+pub reader-most : (name : Name) (answer : Answer) (calls pos filled : ℕ) (bytes : List ℕ) → length (readerLine name (said answer) calls pos filled bytes) ≤ 131 + 2 * length bytes
 unfolding readerLine
 reader-most name answer calls pos filled bytes = simp length-append (omega (arith, call-most name answer, decimal-most calls, decimal-most pos, decimal-most filled, hex-most bytes))
 

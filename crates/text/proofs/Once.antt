@@ -9,6 +9,7 @@ use Rattle.text.specs.Printed.{Printed, printed}
 use Rattle.text.specs.Words.{nameOf}
 use Rattle.text.specs.Numbers.{decimalOf, hexOf}
 use Rattle.text.specs.Answers.{answerOf}
+use Rattle.card.specs.Answers.{said}
 use Rattle.text.specs.Lines.{sessionLine, writerLine, readerLine, writerEnd, readerEnd, judgePossible, judgeImpossible, judgeRefused, sessionRefused}
 
 -- what is left of two functions that print the same text, from the same output and place, is the same
@@ -42,11 +43,11 @@ answer-once answer = once (answerOf answer)
 pub session-once : (kind capacity : ℕ) → Once (sessionLine kind capacity)
 session-once kind capacity = once (sessionLine kind capacity)
 
-pub writer-once : (name : Name) (answer : Answer) (calls held out : ℕ) → Once (writerLine name answer calls held out)
-writer-once name answer calls held out = once (writerLine name answer calls held out)
+pub writer-once : (name : Name) (answer : Answer) (calls held out : ℕ) → Once (writerLine name (said answer) calls held out)
+writer-once name answer calls held out = once (writerLine name (said answer) calls held out)
 
-pub reader-once : (name : Name) (answer : Answer) (calls pos filled : ℕ) (bytes : List ℕ) → Once (readerLine name answer calls pos filled bytes)
-reader-once name answer calls pos filled bytes = once (readerLine name answer calls pos filled bytes)
+pub reader-once : (name : Name) (answer : Answer) (calls pos filled : ℕ) (bytes : List ℕ) → Once (readerLine name (said answer) calls pos filled bytes)
+reader-once name answer calls pos filled bytes = once (readerLine name (said answer) calls pos filled bytes)
 
 pub writer-end-once : (held out : List ℕ) → Once (writerEnd held out)
 writer-end-once held out = once (writerEnd held out)

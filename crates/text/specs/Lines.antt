@@ -2,31 +2,31 @@
 -- Assumes nothing.
 use Prim.Native.Nat.{ℕ}
 use mathlib.Core.List.{List, _++_}
-use Rattle.card.specs.declared.Answer.{Answer}
+use Rattle.card.specs.Answers.{Said}
 use Rattle.text.specs.declared.Name.{Name}
 use Rattle.text.specs.Words.{ascii, nameOf}
 use Rattle.text.specs.Numbers.{withNumber, withHex}
-use Rattle.text.specs.Answers.{answerOf}
+use Rattle.text.specs.Answers.{saidOf}
 
 -- `session K capacity C`, the first line: the session's kind, and its capacity
 unfoldable pub sessionLine : ℕ → ℕ → List ℕ
 sessionLine kind capacity = withNumber "session " kind ++ withNumber " capacity " capacity ++ ascii "\n"
 
 -- `NAME ANSWER`: a call's line opens with the call's name, and then its answer
-unfoldable pub callOf : Name → Answer → List ℕ
-callOf name answer = nameOf name ++ ascii " " ++ answerOf answer
+unfoldable pub callOf : Name → Said → List ℕ
+callOf name answer = nameOf name ++ ascii " " ++ saidOf answer
 
 -- ` calls C`: how many device calls a writer's call made
 unfoldable pub writerCalls : ℕ → List ℕ
 writerCalls calls = withNumber " calls " calls
 
 -- `NAME ANSWER calls C held H out O`: a writer's call, with the counts of bytes held and out after it
-unfoldable pub writerLine : Name → Answer → ℕ → ℕ → ℕ → List ℕ
+unfoldable pub writerLine : Name → Said → ℕ → ℕ → ℕ → List ℕ
 writerLine name answer calls held out =
     callOf name answer ++ writerCalls calls ++ withNumber " held " held ++ withNumber " out " out ++ ascii "\n"
 
 -- `NAME ANSWER calls C pos P filled F bytes HEX`: a reader's call, with the bytes read or shown
-unfoldable pub readerLine : Name → Answer → ℕ → ℕ → ℕ → List ℕ → List ℕ
+unfoldable pub readerLine : Name → Said → ℕ → ℕ → ℕ → List ℕ → List ℕ
 readerLine name answer calls pos filled bytes =
     callOf name answer
     ++ withNumber " calls " calls

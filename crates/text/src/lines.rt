@@ -3,6 +3,7 @@ use crate::Name;
 use crate::parts;
 use card::Answer;
 ghost use mathlib.Core.Path.{_≡_};
+ghost use Rattle.card.specs.Answers.{said};
 ghost use Rattle.text.specs.Printed.{Printed, printed};
 ghost use Rattle.text.specs.Lines.{sessionLine, callOf, writerCalls, writerLine, readerLine, writerEnd, readerEnd, judgePossible, judgeImpossible, judgeRefused, sessionRefused};
 
@@ -17,7 +18,7 @@ pub fn session(output: &mut [u8], at: usize, kind: usize, capacity: usize) -> us
 
 // `NAME ANSWER`, with which a call's line opens.
 fn call(output: &mut [u8], at: usize, name: Name, answer: Answer) -> usize
-    ensures { λ r. ⌜ record { output = now (output .exit); at = r } ≡ printed (now (output .entry)) at (callOf name answer) ⌝ }
+    ensures { λ r. ⌜ record { output = now (output .exit); at = r } ≡ printed (now (output .entry)) at (callOf name (said answer)) ⌝ }
 {
     let next = parts::name(output, at, name);
     let next = parts::say(output, next, b" ");
@@ -41,7 +42,7 @@ pub fn writer(
     held: usize,
     out: usize,
 ) -> usize
-    ensures { λ r. ⌜ record { output = now (output .exit); at = r } ≡ printed (now (output .entry)) at (writerLine name answer calls held out) ⌝ }
+    ensures { λ r. ⌜ record { output = now (output .exit); at = r } ≡ printed (now (output .entry)) at (writerLine name (said answer) calls held out) ⌝ }
 {
     let next = call(output, at, name, answer);
     let next = writer_calls(output, next, calls);
@@ -61,7 +62,7 @@ pub fn reader(
     filled: usize,
     bytes: &[u8],
 ) -> usize
-    ensures { λ r. ⌜ record { output = now (output .exit); at = r } ≡ printed (now (output .entry)) at (readerLine name answer calls pos filled (now (bytes .entry))) ⌝ }
+    ensures { λ r. ⌜ record { output = now (output .exit); at = r } ≡ printed (now (output .entry)) at (readerLine name (said answer) calls pos filled (now (bytes .entry))) ⌝ }
 {
     let next = call(output, at, name, answer);
     let next = parts::say_number(output, next, b" calls ", calls);

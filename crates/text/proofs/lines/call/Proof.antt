@@ -1,6 +1,7 @@
 -- `text::lines::call` meets its contract. Assumes nothing.
 use mathlib.Core.Path.{refl}
 use borrow.Author.Needs.{needs}
+use Rattle.text.specs.Answers.{answerOf}
 use Rattle.text.specs.Lines.{callOf}
 use Rattle.text.proofs.Prints.{then}
 use Rattle.text.proofs.lines.call.Statement.{statement}
@@ -22,7 +23,7 @@ same-length : tie.Need-same-length
 same-length c = search needs
 
 returns : tie.Need-returns
-unfolding callOf
+unfolding callOf answerOf
 returns c =
     let answer = c .before .before in
     let space = answer .before .before .before .before in

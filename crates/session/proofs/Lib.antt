@@ -1,0 +1,2 @@
+-- `WriteSteps` and `WriteRuns`: a writer's session, one call and all of them.
+pub mod WriteSteps

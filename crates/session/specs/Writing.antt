@@ -1,0 +1,68 @@
+-- A writer's session: its calls run by the definitions that the writers' promises cite, and a line for each.
+-- Assumes nothing.
+use Prim.Native.Nat.{ℕ}
+use mathlib.Core.List.{List, [], _∷_, _++_}
+use lib.ListN.{take, replicate}
+use lib.Dec.{eqb}
+use Rattle.laws.specs.Pick.{pick}
+use Rattle.card.specs.Limits.{bytesMost}
+use Rattle.writer.specs.World.{World, Told, reported}
+use Rattle.writer.specs.Writer.{writeCall, writeAllCall, flushCall}
+use Rattle.writer.specs.Line.{lineWriteCall, lineWriteAllCall}
+use Rattle.writer.specs.Ledger.{new}
+use Rattle.form.specs.Calls.{Asked, write, write-all, flush, read, peek, consume, seek-relative, fill}
+use Rattle.text.specs.declared.Name.{Name}
+use Rattle.text.specs.declared.Name.the-variants.{Write, WriteAll, Flush}
+use Rattle.text.specs.Lines.{sessionLine, writerLine, writerEnd}
+
+-- kind 0 is the writer, 1 the line writer; "`flush` is the plain one"
+unfoldable pub toldWrite : ℕ → List ℕ → World → List ℕ → Told
+toldWrite kind script w s = reported (pick (eqb kind 1) (lineWriteCall script w s) (writeCall script w s))
+
+unfoldable pub toldWriteAll : ℕ → List ℕ → World → List ℕ → Told
+toldWriteAll kind script w s = reported (pick (eqb kind 1) (lineWriteAllCall script w s) (writeAllCall script w s))
+
+unfoldable pub toldFlush : List ℕ → World → Told
+toldFlush script w = reported (flushCall script w)
+
+-- what a call prints, and the world that the next one finds
+pub record Step : Type 0 where
+  pub line : List ℕ
+  pub world : World
+
+unfoldable pub stepped : Name → Told → Step
+stepped name t =
+    record {
+      line = writerLine name (t .answer) (t .calls) (t .held) (t .out);
+      world =
+        record {
+          storage = t .storage;
+          medium = t .medium;
+          held = t .held;
+          out = t .out;
+          used = t .used;
+          writes = 0;
+          flushes = 0;
+        };
+    }
+
+-- one call; a reader's call is none of a writer's session
+unfoldable pub writerStep : ℕ → List ℕ → World → Asked → Step
+writerStep kind script w (write s) = stepped Write (toldWrite kind script w s)
+writerStep kind script w (write-all s) = stepped WriteAll (toldWriteAll kind script w s)
+writerStep kind script w flush = stepped Flush (toldFlush script w)
+writerStep kind script w (read n) = record { line = []; world = w }
+writerStep kind script w (peek n) = record { line = []; world = w }
+writerStep kind script w (consume n) = record { line = []; world = w }
+writerStep kind script w (seek-relative back size) = record { line = []; world = w }
+writerStep kind script w fill = record { line = []; world = w }
+
+-- a line for each call, and the end line
+unfoldable pub writerLines : ℕ → List ℕ → World → List Asked → List ℕ
+writerLines kind script w [] = writerEnd (take (w .held) (w .storage)) (take (w .out) (w .medium))
+writerLines kind script w (call ∷ calls) = writerStep kind script w call .line ++ writerLines kind script (writerStep kind script w call .world) calls
+
+-- "The medium has 16,384 bytes, storage starts as zeros"
+unfoldable pub writerText : ℕ → ℕ → List ℕ → List Asked → List ℕ
+writerText kind capacity script calls =
+    sessionLine kind capacity ++ writerLines kind script (new (replicate capacity 0) (replicate bytesMost 0)) calls
