@@ -1,2 +1,3 @@
--- `WriteSteps` and `WriteRuns`: a writer's session, one call and all of them.
+-- `Walks` is the walk over a session's calls, `WriteSteps` and `ReadSteps` one call of a writer's and of a reader's.
+pub mod Walks
 pub mod WriteSteps

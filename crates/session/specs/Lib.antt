@@ -1,3 +1,4 @@
+pub mod Lines
 pub mod Writing
 pub mod Reading
 pub mod Session

@@ -2,7 +2,7 @@
 -- Assumes nothing.
 use Prim.Native.Nat.{ℕ, _-_}
 use mathlib.Core.Bool.{Bool, true, false}
-use mathlib.Core.List.{List, [], _∷_, _++_}
+use mathlib.Core.List.{List, [], _++_}
 use lib.IntN.{ℤ, pos, negsuc}
 use lib.ListN.{take, getD, replicate}
 use lib.Dec.{eqb}
@@ -14,18 +14,14 @@ use Rattle.reader.specs.Reader as Reader
 use Rattle.form.specs.Calls.{Asked, write, write-all, flush, read, peek, consume, seek-relative, fill}
 use Rattle.text.specs.declared.Name.{Name}
 use Rattle.text.specs.declared.Name.the-variants.{Read, Peek, Consume, SeekRelative, Fill}
+use Rattle.session.specs.Lines.{Step, linesOf}
 use Rattle.text.specs.Lines.{sessionLine, readerLine, readerEnd}
 
 -- what an answer shows of bytes: as many as its count after ok, none for every other answer
 unfoldable pub shownBy : Said → List ℕ → List ℕ
 shownBy answer bytes = pick (eqb (getD answer 0 1) 0) (take (getD answer 1 0) bytes) []
 
--- what a call prints, and the world that the next one finds
-pub record Step : Type 0 where
-  pub line : List ℕ
-  pub world : World
-
-unfoldable pub stepped : Name → Called → List ℕ → Step
+unfoldable pub stepped : Name → Called → List ℕ → Step World
 stepped name c bytes =
     record {
       line = readerLine name (c .answer) (c .calls) (c .world .state .pos) (c .world .state .filled) bytes;
@@ -33,15 +29,15 @@ stepped name c bytes =
     }
 
 -- `read` n into a destination of n bytes; the bytes read
-unfoldable pub readStep : Reading → Step
+unfoldable pub readStep : Reading → Step World
 readStep r = stepped Read (r .called) (shownBy (r .called .answer) (r .destination))
 
 -- `peek` n; the bytes shown
-unfoldable pub peekStep : ℕ → Called → Step
+unfoldable pub peekStep : ℕ → Called → Step World
 peekStep n c = stepped Peek c (shownBy (c .answer) (Buffer.shown n (c .world)))
 
 -- fill; all that is buffered
-unfoldable pub fillStep : Called → Step
+unfoldable pub fillStep : Called → Step World
 fillStep c = stepped Fill c (shownBy (c .answer) (Buffer.shown (Buffer.count (c .world .state)) (c .world)))
 
 -- direction 0 on, 1 back
@@ -50,7 +46,7 @@ offsetOf true size = negsuc (size - 1)
 offsetOf false size = pos size
 
 -- one call; a writer's call is none of a reader's session
-unfoldable pub readerStep : List ℕ → List ℕ → World → Asked → Step
+unfoldable pub readerStep : List ℕ → List ℕ → World → Asked → Step World
 readerStep script stock w (write s) = record { line = []; world = w }
 readerStep script stock w (write-all s) = record { line = []; world = w }
 readerStep script stock w flush = record { line = []; world = w }
@@ -60,10 +56,9 @@ readerStep script stock w (consume n) = stepped Consume (Reader.consume script s
 readerStep script stock w (seek-relative back size) = stepped SeekRelative (Reader.seekRelative script stock (offsetOf back size) w) []
 readerStep script stock w fill = fillStep (Reader.fillBuf script stock w)
 
--- a line for each call, and the end line, whose bytes are pos..filled
-unfoldable pub readerLines : List ℕ → List ℕ → World → List Asked → List ℕ
-readerLines script stock w [] = readerEnd (Buffer.shown (Buffer.count (w .state)) w) (w .state .taken)
-readerLines script stock w (call ∷ calls) = readerStep script stock w call .line ++ readerLines script stock (readerStep script stock w call .world) calls
+-- the end line: pos..filled, and the bytes taken of the stock
+unfoldable pub readerEnds : World → List ℕ
+readerEnds w = readerEnd (Buffer.shown (Buffer.count (w .state)) w) (w .state .taken)
 
 unfoldable pub readerText : ℕ → List ℕ → List ℕ → List Asked → List ℕ
-readerText capacity script stock calls = sessionLine 2 capacity ++ readerLines script stock (world (replicate capacity 0) Buffer.new) calls
+readerText capacity script stock calls = sessionLine 2 capacity ++ linesOf (λ w call. readerStep script stock w call) readerEnds (world (replicate capacity 0) Buffer.new) calls

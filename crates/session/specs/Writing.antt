@@ -1,7 +1,7 @@
 -- A writer's session: its calls run by the definitions that the writers' promises cite, and a line for each.
 -- Assumes nothing.
 use Prim.Native.Nat.{ℕ}
-use mathlib.Core.List.{List, [], _∷_, _++_}
+use mathlib.Core.List.{List, [], _++_}
 use lib.ListN.{take, replicate}
 use lib.Dec.{eqb}
 use Rattle.laws.specs.Pick.{pick}
@@ -13,6 +13,7 @@ use Rattle.writer.specs.Ledger.{new}
 use Rattle.form.specs.Calls.{Asked, write, write-all, flush, read, peek, consume, seek-relative, fill}
 use Rattle.text.specs.declared.Name.{Name}
 use Rattle.text.specs.declared.Name.the-variants.{Write, WriteAll, Flush}
+use Rattle.session.specs.Lines.{Step, linesOf}
 use Rattle.text.specs.Lines.{sessionLine, writerLine, writerEnd}
 
 -- kind 0 is the writer, 1 the line writer; "`flush` is the plain one"
@@ -25,12 +26,7 @@ toldWriteAll kind script w s = reported (pick (eqb kind 1) (lineWriteAllCall scr
 unfoldable pub toldFlush : List ℕ → World → Told
 toldFlush script w = reported (flushCall script w)
 
--- what a call prints, and the world that the next one finds
-pub record Step : Type 0 where
-  pub line : List ℕ
-  pub world : World
-
-unfoldable pub stepped : Name → Told → Step
+unfoldable pub stepped : Name → Told → Step World
 stepped name t =
     record {
       line = writerLine name (t .answer) (t .calls) (t .held) (t .out);
@@ -47,7 +43,7 @@ stepped name t =
     }
 
 -- one call; a reader's call is none of a writer's session
-unfoldable pub writerStep : ℕ → List ℕ → World → Asked → Step
+unfoldable pub writerStep : ℕ → List ℕ → World → Asked → Step World
 writerStep kind script w (write s) = stepped Write (toldWrite kind script w s)
 writerStep kind script w (write-all s) = stepped WriteAll (toldWriteAll kind script w s)
 writerStep kind script w flush = stepped Flush (toldFlush script w)
@@ -57,12 +53,11 @@ writerStep kind script w (consume n) = record { line = []; world = w }
 writerStep kind script w (seek-relative back size) = record { line = []; world = w }
 writerStep kind script w fill = record { line = []; world = w }
 
--- a line for each call, and the end line
-unfoldable pub writerLines : ℕ → List ℕ → World → List Asked → List ℕ
-writerLines kind script w [] = writerEnd (take (w .held) (w .storage)) (take (w .out) (w .medium))
-writerLines kind script w (call ∷ calls) = writerStep kind script w call .line ++ writerLines kind script (writerStep kind script w call .world) calls
+-- the end line: the bytes held, and those out
+unfoldable pub writerEnds : World → List ℕ
+writerEnds w = writerEnd (take (w .held) (w .storage)) (take (w .out) (w .medium))
 
 -- "The medium has 16,384 bytes, storage starts as zeros"
 unfoldable pub writerText : ℕ → ℕ → List ℕ → List Asked → List ℕ
 writerText kind capacity script calls =
-    sessionLine kind capacity ++ writerLines kind script (new (replicate capacity 0) (replicate bytesMost 0)) calls
+    sessionLine kind capacity ++ linesOf (λ w call. writerStep kind script w call) writerEnds (new (replicate capacity 0) (replicate bytesMost 0)) calls

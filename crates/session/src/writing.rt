@@ -18,8 +18,8 @@ ghost use Rattle.writer.specs.Ledger.{new};
 ghost use Rattle.text.specs.Printed.{Printed, printed};
 ghost use Rattle.form.specs.Calls.{asked};
 ghost use Rattle.text.specs.Lines.{writerLine};
-ghost use Rattle.session.specs.Steps.{Steps, Writes};
-ghost use Rattle.session.specs.Writing.{toldWrite, toldWriteAll};
+ghost use Rattle.session.specs.Steps.{Steps, Lines};
+ghost use Rattle.session.specs.Writing.{toldWrite, toldWriteAll, writerStep, writerEnds};
 
 // The state that a call leaves, and the place after its line.
 pub struct Stepped {
@@ -67,7 +67,7 @@ fn step(
     output: &mut [u8],
     at: usize,
 ) -> Stepped
-    ensures { λ r. ⌜ Steps kind (now (script .entry)) (worldOf state (now (storage .entry)) (now (medium .entry))) (asked (now (session .entry)) call) (now (output .entry)) at (now (output .exit)) (r .at) (worldOf (r .state) (now (storage .exit)) (now (medium .exit))) ⌝ }
+    ensures { λ r. ⌜ Steps (writerStep kind (now (script .entry)) (worldOf state (now (storage .entry)) (now (medium .entry))) (asked (now (session .entry)) call)) (now (output .entry)) at (now (output .exit)) (r .at) (worldOf (r .state) (now (storage .exit)) (now (medium .exit))) ⌝ }
 {
     match call {
         Call::Write(start, n) => {
@@ -102,7 +102,7 @@ pub(crate) fn run(
     output: &mut [u8],
     at: usize,
 ) -> usize
-    ensures { λ r. ⌜ Writes (now (session .entry)) kind count first (now (script .entry)) (new (now (storage .entry)) (now (medium .entry))) (now (output .entry)) at (now (output .exit)) r ⌝ }
+    ensures { λ r. ⌜ Lines (now (session .entry)) kind count first (λ w call. writerStep kind (now (script .entry)) w call) writerEnds (new (now (storage .entry)) (now (medium .entry))) (now (output .entry)) at (now (output .exit)) r ⌝ }
 {
     let mut state = bufwriter::new();
     let mut left = count;

@@ -1,5 +1,5 @@
 -- `session::part` meets its contract. Assumes nothing.
-use Rattle.session.proofs.WriteSteps.{part-is}
+use Rattle.session.proofs.Walks.{part-is}
 use borrow.Author.Needs.{needs}
 use Rattle.session.proofs.part.Statement.{statement}
 use Rattle.session.proofs.part.Tie as tie

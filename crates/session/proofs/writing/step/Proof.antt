@@ -7,7 +7,8 @@ use Rattle.form.specs.declared.Call.{Call}
 use Rattle.form.specs.Calls.{asked}
 use Rattle.text.specs.declared.Name.the-variants.{Write, WriteAll, Flush}
 use Rattle.session.specs.Writing.{toldWrite, toldWriteAll, toldFlush, stepped, writerStep}
-use Rattle.session.proofs.WriteSteps.{steps, idles}
+use Rattle.session.proofs.Walks.{idles}
+use Rattle.session.proofs.WriteSteps.{steps}
 use borrow.Author.Needs.{needs}
 use Rattle.session.proofs.writing.step.Statement.{statement}
 use Rattle.session.proofs.writing.step.Tie as tie
@@ -71,7 +72,7 @@ same-length-3 c = search needs
 
 returns : tie.Need-returns
 unfolding writerStep
-returns c = steps _ _ _ _ _ _ Write _ (c .before .before .before .before .before .before .before .before .write .result) _ _ _ _ _ ((ap (λ (x : Call). writerStep (c .before .before .before .before .before .before .before .before .before .before .before .before .before .before .before .before .before .before .before .before .args .kind) (c .before .before .before .before .before .before .before .before .before .before .before .before .before .before .before .before .before .before .before .before .args .script .now) (worldOf (c .before .before .before .before .before .before .before .before .before .before .before .before .before .before .before .before .before .before .before .before .args .state) (c .before .before .before .before .before .before .before .before .before .before .before .before .before .before .before .before .before .before .before .before .args .storage .now) (c .before .before .before .before .before .before .before .before .before .before .before .before .before .before .before .before .before .before .before .before .args .medium .now)) (asked (c .before .before .before .before .before .before .before .before .before .before .before .before .before .before .before .before .before .before .before .before .args .session .now) x)) (c .before .before .before .before .before .before .before .before .before .before .before .before .before .call .given .1)) ∙ ap (λ (l : List ℕ). stepped Write (toldWrite (c .before .before .before .before .before .before .before .before .before .before .before .before .before .before .before .before .before .before .before .before .args .kind) (c .before .before .before .before .before .before .before .before .before .before .before .before .before .before .before .before .before .before .before .before .args .script .now) (worldOf (c .before .before .before .before .before .before .before .before .before .before .before .before .before .before .before .before .before .before .before .before .args .state) (c .before .before .before .before .before .before .before .before .before .before .before .before .before .before .before .before .before .before .before .before .args .storage .now) (c .before .before .before .before .before .before .before .before .before .before .before .before .before .before .before .before .before .before .before .before .args .medium .now)) l)) (sym (c .before .before .before .before .before .before .before .before .before .part .ensures))) (c .before .before .before .before .before .before .before .before .write .ensures) (c .before .before .line .ensures .0) (c .before .before .line .ensures .1)
+returns c = steps _ _ _ Write _ (c .before .before .before .before .before .before .before .before .write .result) _ _ _ _ _ ((ap (λ (x : Call). writerStep (c .before .before .before .before .before .before .before .before .before .before .before .before .before .before .before .before .before .before .before .before .args .kind) (c .before .before .before .before .before .before .before .before .before .before .before .before .before .before .before .before .before .before .before .before .args .script .now) (worldOf (c .before .before .before .before .before .before .before .before .before .before .before .before .before .before .before .before .before .before .before .before .args .state) (c .before .before .before .before .before .before .before .before .before .before .before .before .before .before .before .before .before .before .before .before .args .storage .now) (c .before .before .before .before .before .before .before .before .before .before .before .before .before .before .before .before .before .before .before .before .args .medium .now)) (asked (c .before .before .before .before .before .before .before .before .before .before .before .before .before .before .before .before .before .before .before .before .args .session .now) x)) (c .before .before .before .before .before .before .before .before .before .before .before .before .before .call .given .1)) ∙ ap (λ (l : List ℕ). stepped Write (toldWrite (c .before .before .before .before .before .before .before .before .before .before .before .before .before .before .before .before .before .before .before .before .args .kind) (c .before .before .before .before .before .before .before .before .before .before .before .before .before .before .before .before .before .before .before .before .args .script .now) (worldOf (c .before .before .before .before .before .before .before .before .before .before .before .before .before .before .before .before .before .before .before .before .args .state) (c .before .before .before .before .before .before .before .before .before .before .before .before .before .before .before .before .before .before .before .before .args .storage .now) (c .before .before .before .before .before .before .before .before .before .before .before .before .before .before .before .before .before .before .before .before .args .medium .now)) l)) (sym (c .before .before .before .before .before .before .before .before .before .part .ensures))) (c .before .before .before .before .before .before .before .before .write .ensures) (c .before .before .line .ensures .0) (c .before .before .line .ensures .1)
 
 same-length-4 : tie.Need-same-length-4
 same-length-4 c = search needs
@@ -84,7 +85,7 @@ same-length-6 c = search needs
 
 returns-2 : tie.Need-returns-2
 unfolding writerStep
-returns-2 c = steps _ _ _ _ _ _ WriteAll _ (c .before .before .before .before .before .before .before .before .write-all .result) _ _ _ _ _ ((ap (λ (x : Call). writerStep (c .before .before .before .before .before .before .before .before .before .before .before .before .before .before .before .before .before .before .before .before .args .kind) (c .before .before .before .before .before .before .before .before .before .before .before .before .before .before .before .before .before .before .before .before .args .script .now) (worldOf (c .before .before .before .before .before .before .before .before .before .before .before .before .before .before .before .before .before .before .before .before .args .state) (c .before .before .before .before .before .before .before .before .before .before .before .before .before .before .before .before .before .before .before .before .args .storage .now) (c .before .before .before .before .before .before .before .before .before .before .before .before .before .before .before .before .before .before .before .before .args .medium .now)) (asked (c .before .before .before .before .before .before .before .before .before .before .before .before .before .before .before .before .before .before .before .before .args .session .now) x)) (c .before .before .before .before .before .before .before .before .before .before .before .before .before .call2 .given .1)) ∙ ap (λ (l : List ℕ). stepped WriteAll (toldWriteAll (c .before .before .before .before .before .before .before .before .before .before .before .before .before .before .before .before .before .before .before .before .args .kind) (c .before .before .before .before .before .before .before .before .before .before .before .before .before .before .before .before .before .before .before .before .args .script .now) (worldOf (c .before .before .before .before .before .before .before .before .before .before .before .before .before .before .before .before .before .before .before .before .args .state) (c .before .before .before .before .before .before .before .before .before .before .before .before .before .before .before .before .before .before .before .before .args .storage .now) (c .before .before .before .before .before .before .before .before .before .before .before .before .before .before .before .before .before .before .before .before .args .medium .now)) l)) (sym (c .before .before .before .before .before .before .before .before .before .part2 .ensures))) (c .before .before .before .before .before .before .before .before .write-all .ensures) (c .before .before .line2 .ensures .0) (c .before .before .line2 .ensures .1)
+returns-2 c = steps _ _ _ WriteAll _ (c .before .before .before .before .before .before .before .before .write-all .result) _ _ _ _ _ ((ap (λ (x : Call). writerStep (c .before .before .before .before .before .before .before .before .before .before .before .before .before .before .before .before .before .before .before .before .args .kind) (c .before .before .before .before .before .before .before .before .before .before .before .before .before .before .before .before .before .before .before .before .args .script .now) (worldOf (c .before .before .before .before .before .before .before .before .before .before .before .before .before .before .before .before .before .before .before .before .args .state) (c .before .before .before .before .before .before .before .before .before .before .before .before .before .before .before .before .before .before .before .before .args .storage .now) (c .before .before .before .before .before .before .before .before .before .before .before .before .before .before .before .before .before .before .before .before .args .medium .now)) (asked (c .before .before .before .before .before .before .before .before .before .before .before .before .before .before .before .before .before .before .before .before .args .session .now) x)) (c .before .before .before .before .before .before .before .before .before .before .before .before .before .call2 .given .1)) ∙ ap (λ (l : List ℕ). stepped WriteAll (toldWriteAll (c .before .before .before .before .before .before .before .before .before .before .before .before .before .before .before .before .before .before .before .before .args .kind) (c .before .before .before .before .before .before .before .before .before .before .before .before .before .before .before .before .before .before .before .before .args .script .now) (worldOf (c .before .before .before .before .before .before .before .before .before .before .before .before .before .before .before .before .before .before .before .before .args .state) (c .before .before .before .before .before .before .before .before .before .before .before .before .before .before .before .before .before .before .before .before .args .storage .now) (c .before .before .before .before .before .before .before .before .before .before .before .before .before .before .before .before .before .before .before .before .args .medium .now)) l)) (sym (c .before .before .before .before .before .before .before .before .before .part2 .ensures))) (c .before .before .before .before .before .before .before .before .write-all .ensures) (c .before .before .line2 .ensures .0) (c .before .before .line2 .ensures .1)
 
 same-length-7 : tie.Need-same-length-7
 same-length-7 c = search needs
@@ -97,27 +98,27 @@ same-length-9 c = search needs
 
 returns-3 : tie.Need-returns-3
 unfolding writerStep toldFlush
-returns-3 c = steps _ _ _ _ _ _ Flush _ (c .before .before .before .before .before .before .before .before .flush .result) _ _ _ _ _ ((ap (λ (x : Call). writerStep (c .before .before .before .before .before .before .before .before .before .before .before .before .before .before .before .before .before .before .args .kind) (c .before .before .before .before .before .before .before .before .before .before .before .before .before .before .before .before .before .before .args .script .now) (worldOf (c .before .before .before .before .before .before .before .before .before .before .before .before .before .before .before .before .before .before .args .state) (c .before .before .before .before .before .before .before .before .before .before .before .before .before .before .before .before .before .before .args .storage .now) (c .before .before .before .before .before .before .before .before .before .before .before .before .before .before .before .before .before .before .args .medium .now)) (asked (c .before .before .before .before .before .before .before .before .before .before .before .before .before .before .before .before .before .before .args .session .now) x)) (c .before .before .before .before .before .before .before .before .before .before .before .enum-told .given .1))) (c .before .before .before .before .before .before .before .before .flush .ensures) (c .before .before .line3 .ensures .0) (c .before .before .line3 .ensures .1)
+returns-3 c = steps _ _ _ Flush _ (c .before .before .before .before .before .before .before .before .flush .result) _ _ _ _ _ ((ap (λ (x : Call). writerStep (c .before .before .before .before .before .before .before .before .before .before .before .before .before .before .before .before .before .before .args .kind) (c .before .before .before .before .before .before .before .before .before .before .before .before .before .before .before .before .before .before .args .script .now) (worldOf (c .before .before .before .before .before .before .before .before .before .before .before .before .before .before .before .before .before .before .args .state) (c .before .before .before .before .before .before .before .before .before .before .before .before .before .before .before .before .before .before .args .storage .now) (c .before .before .before .before .before .before .before .before .before .before .before .before .before .before .before .before .before .before .args .medium .now)) (asked (c .before .before .before .before .before .before .before .before .before .before .before .before .before .before .before .before .before .before .args .session .now) x)) (c .before .before .before .before .before .before .before .before .before .before .before .enum-told .given .1))) (c .before .before .before .before .before .before .before .before .flush .ensures) (c .before .before .line3 .ensures .0) (c .before .before .line3 .ensures .1)
 
 returns-4 : tie.Need-returns-4
 unfolding writerStep
-returns-4 c = idles _ _ _ _ _ _ (ap (λ (x : Call). writerStep (c .before .before .before .before .before .before .before .args .kind) (c .before .before .before .before .before .before .before .args .script .now) (worldOf (c .before .before .before .before .before .before .before .args .state) (c .before .before .before .before .before .before .before .args .storage .now) (c .before .before .before .before .before .before .before .args .medium .now)) (asked (c .before .before .before .before .before .before .before .args .session .now) x)) (c .enum-told2 .given .1))
+returns-4 c = idles _ _ _ _ (ap (λ (x : Call). writerStep (c .before .before .before .before .before .before .before .args .kind) (c .before .before .before .before .before .before .before .args .script .now) (worldOf (c .before .before .before .before .before .before .before .args .state) (c .before .before .before .before .before .before .before .args .storage .now) (c .before .before .before .before .before .before .before .args .medium .now)) (asked (c .before .before .before .before .before .before .before .args .session .now) x)) (c .enum-told2 .given .1))
 
 returns-5 : tie.Need-returns-5
 unfolding writerStep
-returns-5 c = idles _ _ _ _ _ _ (ap (λ (x : Call). writerStep (c .before .before .before .before .before .before .before .args .kind) (c .before .before .before .before .before .before .before .args .script .now) (worldOf (c .before .before .before .before .before .before .before .args .state) (c .before .before .before .before .before .before .before .args .storage .now) (c .before .before .before .before .before .before .before .args .medium .now)) (asked (c .before .before .before .before .before .before .before .args .session .now) x)) (c .enum-told3 .given .1))
+returns-5 c = idles _ _ _ _ (ap (λ (x : Call). writerStep (c .before .before .before .before .before .before .before .args .kind) (c .before .before .before .before .before .before .before .args .script .now) (worldOf (c .before .before .before .before .before .before .before .args .state) (c .before .before .before .before .before .before .before .args .storage .now) (c .before .before .before .before .before .before .before .args .medium .now)) (asked (c .before .before .before .before .before .before .before .args .session .now) x)) (c .enum-told3 .given .1))
 
 returns-6 : tie.Need-returns-6
 unfolding writerStep
-returns-6 c = idles _ _ _ _ _ _ (ap (λ (x : Call). writerStep (c .before .before .before .before .before .before .before .args .kind) (c .before .before .before .before .before .before .before .args .script .now) (worldOf (c .before .before .before .before .before .before .before .args .state) (c .before .before .before .before .before .before .before .args .storage .now) (c .before .before .before .before .before .before .before .args .medium .now)) (asked (c .before .before .before .before .before .before .before .args .session .now) x)) (c .enum-told4 .given .1))
+returns-6 c = idles _ _ _ _ (ap (λ (x : Call). writerStep (c .before .before .before .before .before .before .before .args .kind) (c .before .before .before .before .before .before .before .args .script .now) (worldOf (c .before .before .before .before .before .before .before .args .state) (c .before .before .before .before .before .before .before .args .storage .now) (c .before .before .before .before .before .before .before .args .medium .now)) (asked (c .before .before .before .before .before .before .before .args .session .now) x)) (c .enum-told4 .given .1))
 
 returns-7 : tie.Need-returns-7
 unfolding writerStep
-returns-7 c = idles _ _ _ _ _ _ (ap (λ (x : Call). writerStep (c .before .before .before .before .before .before .before .args .kind) (c .before .before .before .before .before .before .before .args .script .now) (worldOf (c .before .before .before .before .before .before .before .args .state) (c .before .before .before .before .before .before .before .args .storage .now) (c .before .before .before .before .before .before .before .args .medium .now)) (asked (c .before .before .before .before .before .before .before .args .session .now) x)) (c .enum-told5 .given .1))
+returns-7 c = idles _ _ _ _ (ap (λ (x : Call). writerStep (c .before .before .before .before .before .before .before .args .kind) (c .before .before .before .before .before .before .before .args .script .now) (worldOf (c .before .before .before .before .before .before .before .args .state) (c .before .before .before .before .before .before .before .args .storage .now) (c .before .before .before .before .before .before .before .args .medium .now)) (asked (c .before .before .before .before .before .before .before .args .session .now) x)) (c .enum-told5 .given .1))
 
 returns-8 : tie.Need-returns-8
 unfolding writerStep
-returns-8 c = idles _ _ _ _ _ _ (ap (λ (x : Call). writerStep (c .before .before .before .before .before .before .before .args .kind) (c .before .before .before .before .before .before .before .args .script .now) (worldOf (c .before .before .before .before .before .before .before .args .state) (c .before .before .before .before .before .before .before .args .storage .now) (c .before .before .before .before .before .before .before .args .medium .now)) (asked (c .before .before .before .before .before .before .before .args .session .now) x)) (c .enum-told6 .given .1))
+returns-8 c = idles _ _ _ _ (ap (λ (x : Call). writerStep (c .before .before .before .before .before .before .before .args .kind) (c .before .before .before .before .before .before .before .args .script .now) (worldOf (c .before .before .before .before .before .before .before .args .state) (c .before .before .before .before .before .before .before .args .storage .now) (c .before .before .before .before .before .before .before .args .medium .now)) (asked (c .before .before .before .before .before .before .before .args .session .now) x)) (c .enum-told6 .given .1))
 
 pub step-spec : {M : Type 1} → statement M
 step-spec =
