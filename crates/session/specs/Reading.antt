@@ -21,24 +21,25 @@ use Rattle.text.specs.Lines.{sessionLine, readerLine, readerEnd}
 unfoldable pub shownBy : Said → List ℕ → List ℕ
 shownBy answer bytes = pick (eqb (getD answer 0 1) 0) (take (getD answer 1 0) bytes) []
 
+-- the line of a call, with what its answer shows of these bytes
 unfoldable pub stepped : Name → Called → List ℕ → Step World
 stepped name c bytes =
     record {
-      line = readerLine name (c .answer) (c .calls) (c .world .state .pos) (c .world .state .filled) bytes;
+      line = readerLine name (c .answer) (c .calls) (c .world .state .pos) (c .world .state .filled) (shownBy (c .answer) bytes);
       world = c .world;
     }
 
 -- `read` n into a destination of n bytes; the bytes read
 unfoldable pub readStep : Reading → Step World
-readStep r = stepped Read (r .called) (shownBy (r .called .answer) (r .destination))
+readStep r = stepped Read (r .called) (r .destination)
 
 -- `peek` n; the bytes shown
 unfoldable pub peekStep : ℕ → Called → Step World
-peekStep n c = stepped Peek c (shownBy (c .answer) (Buffer.shown n (c .world)))
+peekStep n c = stepped Peek c (Buffer.shown n (c .world))
 
 -- fill; all that is buffered
 unfoldable pub fillStep : Called → Step World
-fillStep c = stepped Fill c (shownBy (c .answer) (Buffer.shown (Buffer.count (c .world .state)) (c .world)))
+fillStep c = stepped Fill c (Buffer.shown (Buffer.count (c .world .state)) (c .world))
 
 -- direction 0 on, 1 back
 abbrev pub offsetOf : Bool → ℕ → ℤ
