@@ -3,3 +3,4 @@ pub mod Walks
 pub mod WriteSteps
 pub mod ReadSteps
 pub mod Offsets
+pub mod Shows

@@ -8,11 +8,14 @@ use lib.ListN.{take}
 use Rattle.card.specs.Limits.{bytesMost}
 use Rattle.card.specs.Answers.{Said}
 use Rattle.form.specs.Replies.{wordMost}
+use Rattle.form.specs.declared.Header.{Header}
+use Rattle.form.specs.Session.{session, sessionOf}
 use Rattle.form.specs.Lists.{listed}
 use Rattle.form.specs.Calls.{Asked, write, write-all, flush, read, peek, consume, seek-relative, fill, callsFrom}
 use Rattle.text.specs.Printed.{Printed, printed}
 use Rattle.session.specs.Lines.{Step, linesOf}
 use Rattle.session.specs.Reading.{shownBy}
+use Rattle.session.specs.Session.{JudgeText}
 
 -- one call: its line is printed, and this world is left
 pub record Steps {W : Type 0} (s : Step W) (output : List ℕ) (at : ℕ) (after : List ℕ) (next : ℕ) (v : W) : Type 0 where
@@ -42,3 +45,22 @@ Runs (peek n) = Unit
 Runs (consume n) = Unit
 Runs (seek-relative back size) = Bounded back size
 Runs fill = Unit
+
+-- a session without a fault
+pub record Good (t : List ℕ) (header : Header) : Type 0 where
+  pub replies : List ℕ
+  pub stock : List ℕ
+  pub calls : List Asked
+  pub is : sessionOf t ≡ session header replies stock calls
+
+-- the same, with its replies in a script
+pub record Ready (t : List ℕ) (header : Header) (script : List ℕ) : Type 0 where
+  pub stock : List ℕ
+  pub calls : List Asked
+  pub is : sessionOf t ≡ session header script stock calls
+
+-- the judge's line is printed
+pub record Ruled (trace output : List ℕ) (r : ℕ) (after : List ℕ) : Type 0 where
+  pub text : List ℕ
+  pub right : JudgeText trace text
+  pub is : record { output = after; at = r } ≡ printed output 0 text
