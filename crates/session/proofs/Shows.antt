@@ -26,12 +26,13 @@ use Rattle.form.proofs.Rests.{held, held-trace, refused, whole, whole-trace}
 use Rattle.form.proofs.Filling.{filled}
 use Rattle.text.specs.Printed.{Printed, printed}
 use Rattle.text.specs.Lines.{sessionLine, sessionRefused}
-use Rattle.text.proofs.Prints.{after}
+use Rattle.text.proofs.Prints.{after, length-printed}
+use Rattle.text.proofs.Shows.{place-within}
 use Rattle.session.specs.Lines.{Step, linesOf}
 use Rattle.session.specs.Writing.{writerStep, writerEnds, writerText}
 use Rattle.session.specs.Reading.{readerStep, readerEnds, readerText}
-use Rattle.session.specs.Session.{verdictLine, JudgeText, TextOf, Shown}
-use Rattle.session.specs.Steps.{Lines, Good, Ready, Ruled}
+use Rattle.session.specs.Session.{verdictLine, JudgeText, Ruled, TextOf, Shown}
+use Rattle.session.specs.Steps.{Lines, Good, Ready}
 use Rattle.session.proofs.Offsets.{zeros}
 
 -- ---- the calls of a session
@@ -131,3 +132,15 @@ shown-trace t start trace output r o e p u =
 
 pub shown-fault : (t : List ℕ) (place : ℕ) (output : List ℕ) (r : ℕ) (o : List ℕ) → Fault place ≡ checked (sessionOf t) → record { output = o; at = r } ≡ printed output 0 (sessionRefused place) → Shown t output r o
 shown-fault t place output r o e p = record { text = sessionRefused place; right = rw (refused (sessionOf t) place e) refl; is = p }
+
+-- ---- where it ends
+
+place-in : (output text : List ℕ) (r : ℕ) (o : List ℕ) → record { output = o; at = r } ≡ printed output 0 text → r ≤ length o
+place-in output text r o e =
+    let at : r ≡ printed output 0 text .at = ap (λ (p : Printed). p .at) e in
+    let long : length o ≡ length output = ap (λ (p : Printed). length (p .output)) e ∙ length-printed output 0 text in
+    let within = place-within output 0 text (omega arith) in
+    omega arith
+
+pub ends-in : (t output : List ℕ) (r : ℕ) (o : List ℕ) → Shown t output r o → r ≤ length o
+ends-in t output r o s = place-in output (s .text) r o (s .is)

@@ -27,6 +27,12 @@ pub record JudgeText (trace text : List ℕ) : Type 0 where
   pub judged : Judged (traceOf trace) verdict
   pub is : text ≡ verdictLine verdict
 
+-- The judge's line stands at the front of the output, cut where the output ends, and r is where it ends
+pub record Ruled (trace output : List ℕ) (r : ℕ) (after : List ℕ) : Type 0 where
+  pub text : List ℕ
+  pub right : JudgeText trace text
+  pub is : record { output = after; at = r } ≡ printed output 0 text
+
 -- The text of what a session says. "A bad session prints only `refused 6 at P`"
 abbrev pub TextOf : Parsed → List ℕ → Type 0
 TextOf (fault place) text = text ≡ sessionRefused place

@@ -15,7 +15,6 @@ use Rattle.form.specs.Calls.{Asked, write, write-all, flush, read, peek, consum
 use Rattle.text.specs.Printed.{Printed, printed}
 use Rattle.session.specs.Lines.{Step, linesOf}
 use Rattle.session.specs.Reading.{shownBy}
-use Rattle.session.specs.Session.{JudgeText}
 
 -- one call: its line is printed, and this world is left
 pub record Steps {W : Type 0} (s : Step W) (output : List ℕ) (at : ℕ) (after : List ℕ) (next : ℕ) (v : W) : Type 0 where
@@ -58,9 +57,3 @@ pub record Ready (t : List ℕ) (header : Header) (script : List ℕ) : Type 0 w
   pub stock : List ℕ
   pub calls : List Asked
   pub is : sessionOf t ≡ session header script stock calls
-
--- the judge's line is printed
-pub record Ruled (trace output : List ℕ) (r : ℕ) (after : List ℕ) : Type 0 where
-  pub text : List ℕ
-  pub right : JudgeText trace text
-  pub is : record { output = after; at = r } ≡ printed output 0 text

@@ -17,8 +17,8 @@ ghost use Rattle.reader.specs.World.{world};
 ghost use Rattle.reader.specs.Buffer as Reader;
 ghost use Rattle.session.specs.Writing.{writerStep, writerEnds};
 ghost use Rattle.session.specs.Reading.{readerStep, readerEnds};
-ghost use Rattle.session.specs.Steps.{Lines, Good, Ready, Ruled};
-ghost use Rattle.session.specs.Session.{Shown};
+ghost use Rattle.session.specs.Steps.{Lines, Good, Ready};
+ghost use Rattle.session.specs.Session.{Ruled, Shown};
 
 // The n bytes from a start on, or as many as there are.
 fn part(bytes: &[u8], start: usize, n: usize) -> &[u8]
@@ -90,8 +90,10 @@ fn run(session: &[u8], header: Header, output: &mut [u8]) -> usize
     run_calls(session, header, &script[..header.replies], output)
 }
 
-// The judge's line.
-fn rule(trace: &[u8], output: &mut [u8]) -> usize
+// The judge's line of a trace, at the front of the output and cut where the output ends; the
+// answer is where it ends.
+#[no_mangle]
+pub extern "C" fn stackglow_judge(trace: &[u8], output: &mut [u8]) -> usize
     ensures { λ r. ⌜ Ruled (now (trace .entry)) (now (output .entry)) r (now (output .exit)) ⌝ }
 {
     let verdict = judge::judge(trace);
@@ -111,7 +113,7 @@ pub extern "C" fn stackglow_session(session: &[u8], output: &mut [u8]) -> usize
     let checked = whole::check(session);
     match checked {
         Checked::Session(header) => run(session, header, output),
-        Checked::Traced(start) => rule(part(session, start, session.len()), output),
+        Checked::Traced(start) => stackglow_judge(part(session, start, session.len()), output),
         Checked::Fault(place) => lines::session_refused(output, 0, place),
     }
 }

@@ -20,8 +20,8 @@ enum-known-checked-2 c = search needs
 part-requires : tie.Need-part-requires
 part-requires c κs = search needs
 
-rule-requires : tie.Need-rule-requires
-rule-requires c κs = search needs
+stackglow-judge-requires : tie.Need-stackglow-judge-requires
+stackglow-judge-requires c κs = search needs
 
 enum-known-checked-3 : tie.Need-enum-known-checked-3
 enum-known-checked-3 c = search needs
@@ -39,7 +39,7 @@ same-length-2 : tie.Need-same-length-2
 same-length-2 c = search needs
 
 returns-2 : tie.Need-returns-2
-returns-2 c = shown-trace _ _ _ _ _ _ (sym (c .before .before .before .before .before .before .checked2 .given .1) ∙ c .before .before .before .before .before .before .before .before .check .ensures) (c .before .before .before .before .part .ensures) (c .before .before .rule .ensures)
+returns-2 c = shown-trace _ _ _ _ _ _ (sym (c .before .before .before .before .before .before .checked2 .given .1) ∙ c .before .before .before .before .before .before .before .before .check .ensures) (c .before .before .before .before .part .ensures) (c .before .before .stackglow-judge .ensures)
 
 same-length-3 : tie.Need-same-length-3
 same-length-3 c = search needs
@@ -56,7 +56,7 @@ stackglow-session-spec =
     run-requires
     enum-known-checked-2
     part-requires
-    rule-requires
+    stackglow-judge-requires
     enum-known-checked-3
     session-refused-requires
     same-length
