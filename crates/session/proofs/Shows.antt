@@ -46,16 +46,16 @@ module _ (t : List ℕ) (header : Header) (script : List ℕ) (g : Ready t heade
     write-lines l =
         record {
           prints = λ calls end q.
-            l .prints calls end q
-            ∙ ap (λ (st : List ℕ). printed output at (linesOf (λ w call. writerStep (header .kind) script w call) writerEnds (Writer.new st (replicate bytesMost 0)) calls)) (zeros (header .capacity) 1024 capacity-in);
+              l .prints calls end q
+              ∙ ap (λ (st : List ℕ). printed output at (linesOf (λ w call. writerStep (header .kind) script w call) writerEnds (Writer.new st (replicate bytesMost 0)) calls)) (zeros (header .capacity) 1024 capacity-in);
         }
 
     pub read-lines : (stock : List ℕ) → stock ≡ take (header .length) (drop (header .stock) t) → Lines t 2 (header .count) (header .first) (λ w call. readerStep script stock w call) readerEnds (world (take (header .capacity) (replicate 1024 0)) Reader.new) output at o r → Lines t 2 (header .count) (header .first) (λ w call. readerStep script (take (header .length) (drop (header .stock) t)) w call) readerEnds (world (replicate (header .capacity) 0) Reader.new) output at o r
     read-lines stock e l =
         record {
           prints = λ calls end q.
-            l .prints calls end q
-            ∙ ap₂ (λ (k st : List ℕ). printed output at (linesOf (λ w call. readerStep script k w call) readerEnds (world st Reader.new) calls)) e (zeros (header .capacity) 1024 capacity-in);
+              l .prints calls end q
+              ∙ ap₂ (λ (k st : List ℕ). printed output at (linesOf (λ w call. readerStep script k w call) readerEnds (world st Reader.new) calls)) e (zeros (header .capacity) 1024 capacity-in);
         }
 
   module _ (output mid : List ℕ) (at : ℕ) (o : List ℕ) (r : ℕ) (first : record { output = mid; at = at } ≡ printed output 0 (sessionLine (header .kind) (header .capacity))) where
@@ -78,10 +78,10 @@ module _ (t : List ℕ) (header : Header) (script : List ℕ) (g : Ready t heade
           text = readerText (header .capacity) script (g .stock) (g .calls);
           right = rw (g .is) (rw (eq-eqb (header .kind) 2 k) refl);
           is =
-            l .prints (g .calls) (length t) from
-            ∙ ap (λ (stock : List ℕ). printed mid at (linesOf (λ w call. readerStep script stock w call) readerEnds (world (replicate (header .capacity) 0) Reader.new) (g .calls))) (sym (w .stock-is))
-            ∙ after output 0 (sessionLine (header .kind) (header .capacity)) _ first
-            ∙ ap (λ (n : ℕ). printed output 0 (sessionLine n (header .capacity) ++ linesOf (λ w call. readerStep script (g .stock) w call) readerEnds (world (replicate (header .capacity) 0) Reader.new) (g .calls))) k;
+              l .prints (g .calls) (length t) from
+              ∙ ap (λ (stock : List ℕ). printed mid at (linesOf (λ w call. readerStep script stock w call) readerEnds (world (replicate (header .capacity) 0) Reader.new) (g .calls))) (sym (w .stock-is))
+              ∙ after output 0 (sessionLine (header .kind) (header .capacity)) _ first
+              ∙ ap (λ (n : ℕ). printed output 0 (sessionLine n (header .capacity) ++ linesOf (λ w call. readerStep script (g .stock) w call) readerEnds (world (replicate (header .capacity) 0) Reader.new) (g .calls))) k;
         }
 
 -- ---- its replies

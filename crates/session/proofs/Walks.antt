@@ -46,17 +46,17 @@ module _ {W : Type 0} (t : List ℕ) (kind count first : ℕ) (step : W → Aske
   again call after-place o n v q p lt lo =
       record {
         here = λ calls end e.
-          let h = i .here calls end e in
-          let m = next t kind left place (h .rest) end (h .is) call after-place q lt in
-          record {
-            rest = m .later;
-            is = m .goes;
-            same =
-              ap (λ (u : W). printed o n (linesOf step finish u (m .later))) (p .leaves)
-              ∙ after output nxt (step w (asked t call) .line) (linesOf step finish (step w (asked t call) .world) (m .later)) (p .prints)
-              ∙ ap (λ (l : List Asked). printed output nxt (linesOf step finish w l)) (sym (m .front))
-              ∙ h .same;
-          };
+            let h = i .here calls end e in
+            let m = next t kind left place (h .rest) end (h .is) call after-place q lt in
+            record {
+              rest = m .later;
+              is = m .goes;
+              same =
+                  ap (λ (u : W). printed o n (linesOf step finish u (m .later))) (p .leaves)
+                  ∙ after output nxt (step w (asked t call) .line) (linesOf step finish (step w (asked t call) .world) (m .later)) (p .prints)
+                  ∙ ap (λ (l : List Asked). printed output nxt (linesOf step finish w l)) (sym (m .front))
+                  ∙ h .same;
+            };
         long = lo ∙ i .long;
       }
 
@@ -65,20 +65,20 @@ module _ {W : Type 0} (t : List ℕ) (kind count first : ℕ) (step : W → Aske
   ends o r text p pt z =
       record {
         prints = λ calls end e.
-          let h = i .here calls end e in
-          let none = last t kind left place (h .rest) end (h .is) z in
-          p
-          ∙ ap (λ (l : List ℕ). printed output nxt l) pt
-          ∙ ap (λ (l : List Asked). printed output nxt (linesOf step finish w l)) (sym (none .0))
-          ∙ h .same;
+            let h = i .here calls end e in
+            let none = last t kind left place (h .rest) end (h .is) z in
+            p
+            ∙ ap (λ (l : List ℕ). printed output nxt l) pt
+            ∙ ap (λ (l : List Asked). printed output nxt (linesOf step finish w l)) (sym (none .0))
+            ∙ h .same;
       }
 
   pub never : (p : ℕ) (o : List ℕ) (r : ℕ) → callAt t kind place ≡ Fault p → 0 < left → Lines t kind count first step finish w₀ output₀ at₀ o r
   never p o r q lt =
       record {
         prints = λ calls end e.
-          let h = i .here calls end e in
-          absurd (no-fault t kind left place (h .rest) end (h .is) p q lt);
+            let h = i .here calls end e in
+            absurd (no-fault t kind left place (h .rest) end (h .is) p q lt);
       }
 
 -- ---- a part of lent bytes

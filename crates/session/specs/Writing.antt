@@ -31,15 +31,15 @@ stepped name t =
     record {
       line = writerLine name (t .answer) (t .calls) (t .held) (t .out);
       world =
-        record {
-          storage = t .storage;
-          medium = t .medium;
-          held = t .held;
-          out = t .out;
-          used = t .used;
-          writes = 0;
-          flushes = 0;
-        };
+          record {
+            storage = t .storage;
+            medium = t .medium;
+            held = t .held;
+            out = t .out;
+            used = t .used;
+            writes = 0;
+            flushes = 0;
+          };
     }
 
 -- one call; a reader's call is none of a writer's session

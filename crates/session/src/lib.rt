@@ -8,7 +8,6 @@ use form::replies;
 use form::whole;
 use judge::Verdict;
 use text::lines;
-
 ghost use mathlib.Core.Path.{_≡_};
 ghost use lib.ListN.{take, drop, replicate};
 ghost use Rattle.card.specs.Limits.{bytesMost};
@@ -30,7 +29,13 @@ fn part(bytes: &[u8], start: usize, n: usize) -> &[u8]
 }
 
 // A writer's calls, on storage of zeros and a medium of 16,384 bytes.
-fn write_calls(session: &[u8], header: Header, script: &[u32], output: &mut [u8], at: usize) -> usize
+fn write_calls(
+    session: &[u8],
+    header: Header,
+    script: &[u32],
+    output: &mut [u8],
+    at: usize,
+) -> usize
     requires { ⌜ Ready (now session) header (now script) ⌝ }
     ensures { λ r. ⌜ Lines (now (session .entry)) (header .kind) (header .count) (header .first) (λ w call. writerStep (header .kind) (now (script .entry)) w call) writerEnds (Writer.new (replicate (header .capacity) 0) (replicate bytesMost 0)) (now (output .entry)) at (now (output .exit)) r ⌝ }
 {

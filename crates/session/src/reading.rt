@@ -7,7 +7,6 @@ use reader::Answered;
 use reader::State;
 use text::Name;
 use text::lines;
-
 ghost use mathlib.Core.Path.{_≡_};
 ghost use mathlib.Core.List.{List};
 ghost use Prim.Native.Nat.{ℕ, _≤_};
@@ -48,7 +47,16 @@ fn line(output: &mut [u8], at: usize, name: Name, a: Answered, bytes: &[u8]) -> 
 {
     let answer = a.answer;
     let state = a.state;
-    let next = lines::reader(output, at, name, answer, a.calls, state.pos, state.filled, crate::part(bytes, 0, shown(answer)));
+    let next = lines::reader(
+        output,
+        at,
+        name,
+        answer,
+        a.calls,
+        state.pos,
+        state.filled,
+        crate::part(bytes, 0, shown(answer)),
+    );
     Moved { state, at: next }
 }
 
@@ -82,7 +90,15 @@ fn read(
     ensures { λ r. ⌜ Steps (readStep (Reader.read (now (script .entry)) (now (stock .entry)) (replicate n 0) (world (now (storage .entry)) state))) (now (output .entry)) at (now (output .exit)) (r .at) (world (now (storage .exit)) (r .state)) ⌝ }
 {
     let mut destination = [0u8; 16384];
-    read_into(storage, script, stock, state, &mut destination[..n], output, at)
+    read_into(
+        storage,
+        script,
+        stock,
+        state,
+        &mut destination[..n],
+        output,
+        at,
+    )
 }
 
 // The offset of a seek.
@@ -115,7 +131,13 @@ fn step(
         Call::Read(n) => read(storage, script, stock, state, n, output, at),
         Call::Peek(n) => {
             let a = reader::peek(storage, script, stock, state, n);
-            line(output, at, Name::Peek, a, reader::peeked(storage, a.state, n))
+            line(
+                output,
+                at,
+                Name::Peek,
+                a,
+                reader::peeked(storage, a.state, n),
+            )
         }
         Call::Consume(n) => {
             let a = reader::consume(storage, script, stock, state, n);
@@ -127,7 +149,13 @@ fn step(
         }
         Call::Fill => {
             let a = reader::fill_buf(storage, script, stock, state);
-            line(output, at, Name::Fill, a, reader::buffered(storage, a.state))
+            line(
+                output,
+                at,
+                Name::Fill,
+                a,
+                reader::buffered(storage, a.state),
+            )
         }
         Call::Write(_, _) => Moved { state, at },
         Call::WriteAll(_, _) => Moved { state, at },

@@ -8,7 +8,6 @@ use writer::Answered;
 use writer::State;
 use writer::bufwriter;
 use writer::linewriter;
-
 ghost use mathlib.Core.Path.{_≡_};
 ghost use Prim.Native.Nat.{_≤_};
 ghost use lib.ListN.{length, take, drop};
@@ -27,7 +26,14 @@ pub struct Stepped {
     pub at: usize,
 }
 
-fn write(kind: usize, state: State, storage: &mut [u8], script: &[u32], medium: &mut [u8], slice: &[u8]) -> Answered
+fn write(
+    kind: usize,
+    state: State,
+    storage: &mut [u8],
+    script: &[u32],
+    medium: &mut [u8],
+    slice: &[u8],
+) -> Answered
     ensures { λ r. ⌜ told r (now (storage .exit)) (now (medium .exit)) ≡ toldWrite kind (now (script .entry)) (worldOf state (now (storage .entry)) (now (medium .entry))) (now (slice .entry)) ⌝ }
 {
     if kind == 1 {
@@ -36,7 +42,14 @@ fn write(kind: usize, state: State, storage: &mut [u8], script: &[u32], medium: 
     bufwriter::write(state, storage, script, medium, slice)
 }
 
-fn write_all(kind: usize, state: State, storage: &mut [u8], script: &[u32], medium: &mut [u8], slice: &[u8]) -> Answered
+fn write_all(
+    kind: usize,
+    state: State,
+    storage: &mut [u8],
+    script: &[u32],
+    medium: &mut [u8],
+    slice: &[u8],
+) -> Answered
     ensures { λ r. ⌜ told r (now (storage .exit)) (now (medium .exit)) ≡ toldWriteAll kind (now (script .entry)) (worldOf state (now (storage .entry)) (now (medium .entry))) (now (slice .entry)) ⌝ }
 {
     if kind == 1 {
@@ -71,11 +84,25 @@ fn step(
 {
     match call {
         Call::Write(start, n) => {
-            let a = write(kind, state, storage, script, medium, crate::part(session, start, n));
+            let a = write(
+                kind,
+                state,
+                storage,
+                script,
+                medium,
+                crate::part(session, start, n),
+            );
             line(output, at, Name::Write, a)
         }
         Call::WriteAll(start, n) => {
-            let a = write_all(kind, state, storage, script, medium, crate::part(session, start, n));
+            let a = write_all(
+                kind,
+                state,
+                storage,
+                script,
+                medium,
+                crate::part(session, start, n),
+            );
             line(output, at, Name::WriteAll, a)
         }
         Call::Flush => {
@@ -112,7 +139,17 @@ pub(crate) fn run(
         let read = calls::read_call(session, kind, place);
         match read {
             CallRead::Found(call, after) => {
-                let s = step(session, kind, call, state, storage, script, medium, output, next);
+                let s = step(
+                    session,
+                    kind,
+                    call,
+                    state,
+                    storage,
+                    script,
+                    medium,
+                    output,
+                    next,
+                );
                 let left_behind = s.state;
                 state = left_behind;
                 next = s.at;

@@ -40,7 +40,7 @@ loop-less : tie.Need-loop-less Inv-loop μ-loop
 loop-less c = omega arith
 
 loop-again : tie.Need-loop-again Inv-loop μ-loop
-loop-again c = (again _ _ _ _ _ _ _ _ _ _ _ _ _ _  (c .before .before .before .before .before .before .before .before .before .before .before .before .before .loop .inv .0) _ _ _ _ _ (sym (c .before .before .before .before .before .before .before .before .before .before .before .read-call .ensures) ∙ c .before .before .before .before .before .before .before .before .before .read .given .1) (c .before .before .before .before .before .step .ensures) (c .before .before .before .before .before .before .before .before .before .before .before .before .loop-test .taken) (c .before .before .before .before .before .step .kept .1 .1 .1 .1 .1 .1 .0), c .before .before .before .before .before .step .kept .1 .1 .1 .0 ∙ c .before .before .before .before .before .before .before .before .before .before .before .before .before .loop .inv .1)
+loop-again c = (again _ _ _ _ _ _ _ _ _ _ _ _ _ _ (c .before .before .before .before .before .before .before .before .before .before .before .before .before .loop .inv .0) _ _ _ _ _ (sym (c .before .before .before .before .before .before .before .before .before .before .before .read-call .ensures) ∙ c .before .before .before .before .before .before .before .before .before .read .given .1) (c .before .before .before .before .before .step .ensures) (c .before .before .before .before .before .before .before .before .before .before .before .before .loop-test .taken) (c .before .before .before .before .before .step .kept .1 .1 .1 .1 .1 .1 .0), c .before .before .before .before .before .step .kept .1 .1 .1 .0 ∙ c .before .before .before .before .before .before .before .before .before .before .before .before .before .loop .inv .1)
 
 enum-told : tie.Need-enum-told Inv-loop μ-loop
 enum-told c = search needs
@@ -52,7 +52,7 @@ same-length-2 : tie.Need-same-length-2 Inv-loop μ-loop
 same-length-2 c = c .before .before .before .before .loop .inv .0 .long
 
 returns : tie.Need-returns Inv-loop μ-loop
-returns c = never _ _ _ _ _ _ _ _ _ _ _ _ _ _  (c .before .before .before .before .loop .inv .0) _ _ _ (sym (c .before .before .read-call .ensures) ∙ c .enum-told .given .1) (c .before .before .before .loop-test .taken)
+returns c = never _ _ _ _ _ _ _ _ _ _ _ _ _ _ (c .before .before .before .before .loop .inv .0) _ _ _ (sym (c .before .before .read-call .ensures) ∙ c .enum-told .given .1) (c .before .before .before .loop-test .taken)
 
 buffered-requires : tie.Need-buffered-requires Inv-loop μ-loop
 buffered-requires c κs = search needs
@@ -67,7 +67,7 @@ same-length-4 : tie.Need-same-length-4 Inv-loop μ-loop
 same-length-4 c = c .before .before .reader-end .kept .0 ∙ c .before .before .before .before .before .before .before .loop .inv .0 .long
 
 returns-2 : tie.Need-returns-2 Inv-loop μ-loop
-returns-2 c = ends _ _ _ _ _ _ _ _ _ _ _ _ _ _  (c .before .before .before .before .before .before .before .loop .inv .0) _ _ _ (c .before .before .reader-end .ensures) (ends-text _ _ _ (c .before .before .before .buffered .ensures)) (c .before .before .before .before .before .before .loop-test .left)
+returns-2 c = ends _ _ _ _ _ _ _ _ _ _ _ _ _ _ (c .before .before .before .before .before .before .before .loop .inv .0) _ _ _ (c .before .before .reader-end .ensures) (ends-text _ _ _ (c .before .before .before .buffered .ensures)) (c .before .before .before .before .before .before .loop-test .left)
 
 pub run-spec : {M : Type 1} → statement M
 run-spec =
