@@ -2,14 +2,14 @@
 -- finds room for all that is held and all that it is handed. So no reply is cut by the room, and the medium is as good as
 -- one without end.
 -- Assumes nothing.
-use mathlib.Core.Path.{_≡_, refl, sym, ap, _∙_}
-use mathlib.Core.List.{List, [], _∷_, _++_}
-use Prim.Native.Nat.{ℕ, _+_, _-_, _≤_}
+use mathlib.Core.Path.{_≡_, sym, ap, _∙_}
+use mathlib.Core.List.{List, [], _∷_}
+use Prim.Native.Nat.{ℕ, _+_, _≤_}
 use native.Mathlib.Omega.{arith}
 use lib.ListN.{length, replicate, length-append}
 use Rattle.writer.specs.World.{World, room}
 use Rattle.writer.specs.Ledger.{new, ledger}
-use Rattle.writer.proofs.Moves.{In, Moved, moved-in}
+use Rattle.writer.proofs.Moves.{In, moved-in}
 use Rattle.trace.specs.Calls.{Told, wrote, flushed, written}
 use Rattle.judge.specs.Judge.{calledBy, Explains, Possible}
 use Rattle.judge.specs.Table.{piece}

@@ -1,9 +1,9 @@
 -- The device calls that a call reports are the replies that it took, plus one if it met the script's end.
 -- Assumes nothing.
 use mathlib.Core.Path.{_≡_, refl, sym, ap, _∙_}
-use mathlib.Core.Bool.{Bool, true, false}
+use mathlib.Core.Bool.{true}
 use mathlib.Core.List.{List, [], _∷_}
-use Prim.Native.Nat.{ℕ, _+_, _-_, _≤_, _<_, min}
+use Prim.Native.Nat.{ℕ, _+_, _-_, min}
 use native.Mathlib.Omega.{arith}
 use lib.ListN.{length, take, drop}
 use lib.Dec.{leb, ltb, eqb}
@@ -21,7 +21,7 @@ use Rattle.writer.specs.declared.Outcome.the-variants.{Done, Zero, Faile
 use Rattle.writer.specs.declared.Sent.{Sent}
 use Rattle.writer.specs.declared.State.{State}
 use Rattle.writer.specs.World.{World, Called, Told, capacity, spare, room, replies, isOk, andThen, nothing, begun, refusing, worldOf, reported}
-use Rattle.writer.specs.Send.{flushSaid, wholeSaid, writeSaid, flushReplySaid, sendFrom, sentBy, onReply}
+use Rattle.writer.specs.Send.{flushSaid, wholeSaid, writeSaid, flushReplySaid, sendFrom, onReply}
 use Rattle.writer.specs.Writer.{flushBuf, deviceWrite, deviceWriteAll, stored, placed, cold, written, write, writeAll, deviceFlush, flush, flushBufCall, writeCall, writeAllCall, flushCall}
 use Rattle.writer.specs.Line.{linesLength, endsLine, completed, countOf, keepTail, sendLines, lineWrite, linesAll, lineWriteAll, lineWriteCall, lineWriteAllCall}
 use Rattle.writer.proofs.Cases.{then-cases}
