@@ -33,7 +33,7 @@ use Rattle.judge.proofs.Can.{sends, cut, fails, directReply, syncedRepl
 
 -- ---- one call
 
-call-moved : (script : List ℕ) (w : World) (call : Told) → In script w → calledBy script w call .answer ≡ claim call → Moved script w (calledBy script w call .world) (piece call)
+pub call-moved : (script : List ℕ) (w : World) (call : Told) → In script w → calledBy script w call .answer ≡ claim call → Moved script w (calledBy script w call .world) (piece call)
 call-moved script w (wrote s said) i e =
     subst (λ (a : Said). Moved script w (write script (begun w) s .world) (accepted s a)) e (from-begun script w _ _ (write-moved script (begun w) s (begun-fit script w i)))
 call-moved script w (flushed said) i e = from-begun script w _ _ (flush-moved script (begun w) (begun-fit script w i))
@@ -46,7 +46,7 @@ call-only script w (flushed said) i e =
 
 -- ---- the ledger's length, and the card in it
 
-ledger-long : (script : List ℕ) (w : World) → In script w → length (ledger w) ≡ w .out + w .held
+pub ledger-long : (script : List ℕ) (w : World) → In script w → length (ledger w) ≡ w .out + w .held
 ledger-long script w i =
     length-append (take (w .out) (w .medium)) (take (w .held) (w .storage))
     ∙ ap₂ (λ (a b : ℕ). a + b) (length-take-le (w .out) (w .medium) (i .out)) (length-take-le (w .held) (w .storage) (i .held))
@@ -134,7 +134,7 @@ accepted-most s a = by (isOk a)
     by true = rw (length-take (countOf a) s) (omega arith)
     by false = omega arith
 
-piece-most : (call : Told) (calls : List Told) → length (piece call) + written calls ≤ written (call ∷ calls)
+pub piece-most : (call : Told) (calls : List Told) → length (piece call) + written calls ≤ written (call ∷ calls)
 unfolding written
 piece-most (wrote s said) calls = omega (arith, accepted-most s said)
 piece-most (flushed said) calls = omega arith

@@ -23,7 +23,7 @@ use Rattle.judge.proofs.Sets.{top-begins}
 use Rattle.judge.proofs.Runs.{possible-goes, goes-possible}
 
 -- a card that is what is left of l begins l, and is as long as that
-left-begins : (e : ℕ) (l card : List ℕ) → Left e l card → (card ≡ take (length card) l) × (length card + e ≡ length l)
+pub left-begins : (e : ℕ) (l card : List ℕ) → Left e l card → (card ≡ take (length card) l) × (length card + e ≡ length l)
 left-begins e l card x =
     let long : length card ≡ length l - e = ap length (x .is) ∙ length-take-le (length l - e) l (omega arith) in
     (x .is ∙ ap (λ (k : ℕ). take k l) (sym long), omega (arith, x .fits))

@@ -1,9 +1,9 @@
--- `reader_rows::print_bytes` is safe and ends. Assumes nothing.
+-- `rows::print::bytes` is safe and ends. Assumes nothing.
 use Prim.Native.Nat.{_≤_, _-_}
 use lib.ListN.{length}
 use borrow.Author.Needs.{needs}
-use Rattle.reader_rows.proofs.print_bytes.Statement.{statement}
-use Rattle.reader_rows.proofs.print_bytes.Tie as tie
+use Rattle.rows.proofs.print.bytes.Statement.{statement}
+use Rattle.rows.proofs.print.bytes.Tie as tie
 
 abbrev Inv-loop : tie.InvT-loop
 Inv-loop bytes count i₀ i = i ≤ length bytes
@@ -11,11 +11,11 @@ Inv-loop bytes count i₀ i = i ≤ length bytes
 abbrev μ-loop : tie.MeasureT-loop
 μ-loop bytes count i₀ i = length bytes - i
 
-slice-aggregate-print-word : tie.Need-slice-aggregate-print-word Inv-loop μ-loop
-slice-aggregate-print-word c = search needs
+slice-aggregate-word : tie.Need-slice-aggregate-word Inv-loop μ-loop
+slice-aggregate-word c = search needs
 
-print-word-requires : tie.Need-print-word-requires Inv-loop μ-loop
-print-word-requires c κs = search needs
+word-requires : tie.Need-word-requires Inv-loop μ-loop
+word-requires c κs = search needs
 
 returns : tie.Need-returns Inv-loop μ-loop
 returns c = search needs
@@ -47,14 +47,14 @@ loop-again c = search needs
 returns-3 : tie.Need-returns-3 Inv-loop μ-loop
 returns-3 c = search needs
 
-pub print-bytes-spec : {M : Type 1} → statement M
-print-bytes-spec =
+pub bytes-spec : {M : Type 1} → statement M
+bytes-spec =
     tie.close
     (tie.spec
     Inv-loop
     μ-loop
-    slice-aggregate-print-word
-    print-word-requires
+    slice-aggregate-word
+    word-requires
     returns
     loop-holds
     returns-2
