@@ -1,6 +1,10 @@
 // Answers requests, one after the other, until its input ends: each comes after its length, and
 // its answer goes out after its own. A request is a letter and what it needs.
+mod answer;
+mod fields;
 mod numbers;
+mod reading;
+mod writing;
 
 use libc::STDIN_FILENO;
 use libc::STDOUT_FILENO;
@@ -24,13 +28,19 @@ fn rest(request: &[u8]) -> &[u8] {
 }
 
 // Where the answer ends; a letter that is none has an empty one.
-fn answer(request: &[u8], output: &mut [u8]) -> usize {
+fn answer_to(request: &[u8], output: &mut [u8]) -> usize {
     let letter = numbers::byte(request, 0);
     if letter == 115 {
         return session::stackglow_session(rest(request), output);
     }
     if letter == 106 {
         return session::stackglow_judge(rest(request), output);
+    }
+    if letter == 119 {
+        return writing::answer(request, output);
+    }
+    if letter == 114 {
+        return reading::answer(request, output);
     }
     0
 }
@@ -39,7 +49,7 @@ fn answer(request: &[u8], output: &mut [u8]) -> usize {
 fn send(request: &[u8], output: &mut [u8]) -> bool {
     let from = card::bytes::least(4, output.len());
     let most = output.len() - from;
-    let n = card::bytes::least(answer(request, &mut output[from..]), most);
+    let n = card::bytes::least(answer_to(request, &mut output[from..]), most);
     numbers::put(output, 0, n);
     let end = card::bytes::least(from + n, output.len());
     io::write_all(STDOUT_FILENO, &output[..end])

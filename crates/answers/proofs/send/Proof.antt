@@ -10,17 +10,17 @@ least-requires c κs = search needs
 sub-most : tie.Need-sub-most
 sub-most c = search needs
 
-sub-answer : tie.Need-sub-answer
-sub-answer c = search needs
+sub-answer-to : tie.Need-sub-answer-to
+sub-answer-to c = search needs
 
-part-answer-start : tie.Need-part-answer-start
-part-answer-start c = search needs
+part-answer-to-start : tie.Need-part-answer-to-start
+part-answer-to-start c = search needs
 
-part-answer-end : tie.Need-part-answer-end
-part-answer-end c = search needs
+part-answer-to-end : tie.Need-part-answer-to-end
+part-answer-to-end c = search needs
 
-answer-requires : tie.Need-answer-requires
-answer-requires c κs = search needs
+answer-to-requires : tie.Need-answer-to-requires
+answer-to-requires c κs = search needs
 
 least-requires-2 : tie.Need-least-requires-2
 least-requires-2 c κs = search needs
@@ -55,10 +55,10 @@ send-spec =
     (tie.spec
     least-requires
     sub-most
-    sub-answer
-    part-answer-start
-    part-answer-end
-    answer-requires
+    sub-answer-to
+    part-answer-to-start
+    part-answer-to-end
+    answer-to-requires
     least-requires-2
     put-requires
     add-least
