@@ -18,7 +18,8 @@ pub const LINE_WRITE: u32 = 4;
 pub const LINE_WRITE_ALL: u32 = 5;
 pub const WRITER_CALLS: [u32; 6] = [WRITE, WRITE_ALL, FLUSH, FLUSH_BUF, LINE_WRITE, LINE_WRITE_ALL];
 
-/// The numbers of a reader's calls; the last five are the buffer's own.
+/// The numbers of a reader's calls; the last five are the buffer's own. The port's `unconsume`,
+/// `backshift` and `read_more` are not public: there only `seek_relative` and `peek` reach them.
 pub const READ: u32 = 0;
 pub const PEEK: u32 = 1;
 pub const CONSUME: u32 = 2;
@@ -29,18 +30,8 @@ pub const BUFFER_UNCONSUME: u32 = 6;
 pub const BUFFER_BACKSHIFT: u32 = 7;
 pub const BUFFER_READ_MORE: u32 = 8;
 pub const BUFFER_FILL: u32 = 9;
-pub const READER_CALLS: [u32; 10] = [
-    READ,
-    PEEK,
-    CONSUME,
-    SEEK,
-    FILL,
-    BUFFER_CONSUME,
-    BUFFER_UNCONSUME,
-    BUFFER_BACKSHIFT,
-    BUFFER_READ_MORE,
-    BUFFER_FILL,
-];
+pub const READER_CALLS: [u32; 7] =
+    [READ, PEEK, CONSUME, SEEK, FILL, BUFFER_CONSUME, BUFFER_FILL];
 
 #[derive(Clone, Debug)]
 pub struct WriterCall {
