@@ -1,20 +1,13 @@
-//! A fixed sample of the oracle's answers, for a program that replays it with no Rust at hand.
-//!
-//! The file: the count of cases (32 bits, lowest byte first, as are all), then for each case the
-//! session's length (16 bits) and bytes, the length of its lines (32 bits) and their sum (32 bits).
-//! The sum starts at 0; each byte b makes it (sum * 257 + b) mod 4,294,967,291.
+//! A fixed sample of the oracle's answers, for a program that replays it with no Rust at hand: the
+//! input and the output of the port's program `answers`, each request and each answer after its
+//! length (32 bits, lowest byte first).
 
 use crate::compare::{Cases, Expected};
 use crate::random::Random;
-use crate::{damage, judge, large, oracle, small, stored};
+use crate::request::put_bytes;
+use crate::{damage, direct_worlds, judge, large, oracle, small, stored};
 
-pub const MODULUS: u64 = 4_294_967_291;
-
-pub fn sum(bytes: &[u8]) -> u32 {
-    bytes.iter().fold(0, |sum, &byte| (sum * 257 + u64::from(byte)) % MODULUS) as u32
-}
-
-/// Takes every `stride`-th session that is at most `longest` bytes.
+/// Takes every `stride`-th request that is at most `longest` bytes.
 struct Collector {
     cases: Vec<(Vec<u8>, Vec<u8>)>,
     longest: usize,
@@ -24,13 +17,12 @@ struct Collector {
 
 impl Cases for Collector {
     fn add(&mut self, request: Vec<u8>, expected: Expected) {
-        let (Some((b's', session)), Expected::Exactly(lines)) = (request.split_first(), expected)
-        else {
+        let Expected::Exactly(answer) = expected else {
             return;
         };
-        if session.len() <= self.longest {
+        if request.len() <= self.longest {
             if self.seen.is_multiple_of(self.stride) {
-                self.cases.push((session.to_vec(), lines));
+                self.cases.push((request, answer));
             }
             self.seen += 1;
         }
@@ -59,6 +51,8 @@ fn cases() -> Vec<(Vec<u8>, Vec<u8>)> {
     all.part(100, 599, |to| small::line_writer(to, false));
     all.part(100, 97, |to| small::reader(to, false));
     all.part(100, 97, |to| judge::small(to, 2));
+    all.part(200, 97, direct_worlds::small);
+    all.part(200, 11, direct_worlds::refusals);
     let random = &mut random;
     for (longest, count) in [(72, 2_500), (600, 40)] {
         all.part(longest, 1, |to| {
@@ -73,14 +67,13 @@ fn cases() -> Vec<(Vec<u8>, Vec<u8>)> {
     all.cases
 }
 
-pub fn file() -> (usize, Vec<u8>) {
+/// How many cases, the requests and the answers.
+pub fn files() -> (usize, Vec<u8>, Vec<u8>) {
     let cases = cases();
-    let mut to = (cases.len() as u32).to_le_bytes().to_vec();
-    for (session, lines) in &cases {
-        to.extend_from_slice(&(session.len() as u16).to_le_bytes());
-        to.extend_from_slice(session);
-        to.extend_from_slice(&(lines.len() as u32).to_le_bytes());
-        to.extend_from_slice(&sum(lines).to_le_bytes());
+    let (mut requests, mut answers) = (vec![], vec![]);
+    for (request, answer) in &cases {
+        put_bytes(&mut requests, request);
+        put_bytes(&mut answers, answer);
     }
-    (cases.len(), to)
+    (cases.len(), requests, answers)
 }

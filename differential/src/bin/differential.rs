@@ -18,7 +18,7 @@ PORT is one of
   --mirror          the driver's own stand-in
   --self-test       the stand-in with a slip planted, one after the other: each must be found
   --serve           be such a program, with the stand-in's answers
-  --sample FILE     write the stored sample, whose answers a program can replay";
+  --sample IN OUT   write the stored sample, requests and answers, which a program replays";
 
 fn main() -> ExitCode {
     let mut plan = Plan::usual(1);
@@ -33,7 +33,7 @@ fn main() -> ExitCode {
             "--deep" => plan.deep = true,
             "--mirror" => return compare(&mut Mirror(Slip::None), &plan),
             "--serve" => return serve(),
-            "--sample" => return sample(&words.next().expect("a file")),
+            "--sample" => return sample(&words.next().expect("a file"), &words.next().expect("a file")),
             "--self-test" => return self_test(plan.seed),
             "--piped" => {
                 let command: Vec<String> = words.collect();
@@ -98,9 +98,10 @@ fn serve() -> ExitCode {
     ExitCode::SUCCESS
 }
 
-fn sample(path: &str) -> ExitCode {
-    let (count, bytes) = sample::file();
-    std::fs::write(path, &bytes).expect("the file can be written");
-    println!("{count} cases, {} bytes, from {}", bytes.len(), oracle::CODE);
+fn sample(requests: &str, answers: &str) -> ExitCode {
+    let (count, asked, answered) = sample::files();
+    std::fs::write(requests, &asked).expect("the requests can be written");
+    std::fs::write(answers, &answered).expect("the answers can be written");
+    println!("{count} cases, {} and {} bytes, from {}", asked.len(), answered.len(), oracle::CODE);
     ExitCode::SUCCESS
 }
