@@ -1,5 +1,5 @@
 // A call's answer as numbers and bytes.
-use crate::numbers;
+use crate::number;
 use card::Answer;
 use card::bytes;
 
@@ -37,9 +37,9 @@ pub(crate) fn count(answer: Answer) -> usize {
 
 // The first three numbers of every answer.
 pub(crate) fn put(output: &mut [u8], answer: Answer, calls: usize) {
-    numbers::put(output, 0, kind(answer));
-    numbers::put(output, 4, value(answer));
-    numbers::put(output, 8, calls);
+    number::put(output, 0, kind(answer));
+    number::put(output, 4, value(answer));
+    number::put(output, 8, calls);
 }
 
 // Bytes put at a place, or as many as have room; the answer is where they end.

@@ -1,5 +1,5 @@
 // The parts of a request, for every request: past its end there is nothing.
-use crate::numbers;
+use crate::number;
 use card::bytes;
 
 // The place n bytes on, or the end.
@@ -17,17 +17,17 @@ fn part(request: &[u8], start: usize, n: usize) -> &[u8] {
 
 // The bytes whose count is at this place.
 pub(crate) fn lent(request: &[u8], at: usize) -> &[u8] {
-    part(request, after(request, at, 4), numbers::number(request, at))
+    part(request, after(request, at, 4), number::number(request, at))
 }
 
 // What follows them.
 pub(crate) fn past_bytes(request: &[u8], at: usize) -> usize {
-    after(request, after(request, at, 4), numbers::number(request, at))
+    after(request, after(request, at, 4), number::number(request, at))
 }
 
 // What follows the replies whose count is at this place.
 pub(crate) fn past_replies(request: &[u8], at: usize) -> usize {
-    let count = numbers::number(request, at);
+    let count = number::number(request, at);
     after(request, after(request, at, 4), 4 * count)
 }
 
@@ -37,12 +37,12 @@ pub(crate) fn load(request: &[u8], at: usize, to: &mut [u8]) {
 }
 
 fn reply(request: &[u8], at: usize) -> u32 {
-    numbers::number(request, at) as u32
+    number::number(request, at) as u32
 }
 
 // The replies whose count is at this place.
 pub(crate) fn load_replies(request: &[u8], at: usize, script: &mut [u32]) {
-    let count = numbers::number(request, at);
+    let count = number::number(request, at);
     let mut place = at;
     let mut i = 0;
     while i < script.len() {

@@ -2,7 +2,7 @@
 // its answer goes out after its own. A request is a letter and what it needs.
 mod answer;
 mod fields;
-mod numbers;
+mod number;
 mod reading;
 mod writing;
 
@@ -29,7 +29,7 @@ fn rest(request: &[u8]) -> &[u8] {
 
 // Where the answer ends; a letter that is none has an empty one.
 fn answer_to(request: &[u8], output: &mut [u8]) -> usize {
-    let letter = numbers::byte(request, 0);
+    let letter = number::byte(request, 0);
     if letter == 115 {
         return session::stackglow_session(rest(request), output);
     }
@@ -50,7 +50,7 @@ fn send(request: &[u8], output: &mut [u8]) -> bool {
     let from = card::bytes::least(4, output.len());
     let most = output.len() - from;
     let n = card::bytes::least(answer_to(request, &mut output[from..]), most);
-    numbers::put(output, 0, n);
+    number::put(output, 0, n);
     let end = card::bytes::least(from + n, output.len());
     io::write_all(STDOUT_FILENO, &output[..end])
 }
@@ -61,7 +61,7 @@ fn serve(input: &mut [u8], output: &mut [u8]) -> bool {
     if io::read_full(STDIN_FILENO, &mut head) < 4 {
         return false;
     }
-    let n = card::bytes::least(numbers::number(&head, 0), input.len());
+    let n = card::bytes::least(number::number(&head, 0), input.len());
     if io::read_full(STDIN_FILENO, &mut input[..n]) < n {
         return false;
     }

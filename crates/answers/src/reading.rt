@@ -1,7 +1,7 @@
 // A call of the reader, from a state and on bytes of the request's choice.
 use crate::answer;
 use crate::fields;
-use crate::numbers;
+use crate::number;
 use card::Answer;
 use card::bytes;
 use reader::Answered;
@@ -63,10 +63,10 @@ fn shown(call: usize, answer: Answer) -> usize {
 }
 
 fn put_state(output: &mut [u8], state: State) {
-    numbers::put(output, 12, state.pos);
-    numbers::put(output, 16, state.filled);
-    numbers::put(output, 20, state.used);
-    numbers::put(output, 24, state.taken);
+    number::put(output, 12, state.pos);
+    number::put(output, 16, state.filled);
+    number::put(output, 20, state.used);
+    number::put(output, 24, state.taken);
 }
 
 fn put(output: &mut [u8], call: usize, a: Answered, storage: &[u8], destination: &[u8]) -> usize {
@@ -148,10 +148,10 @@ fn destination_at(request: &[u8]) -> usize {
 
 fn state(request: &[u8]) -> State {
     State {
-        pos: numbers::number(request, pos_at(request)),
-        filled: numbers::number(request, filled_at(request)),
-        taken: numbers::number(request, taken_at(request)),
-        used: numbers::number(request, used_at(request)),
+        pos: number::number(request, pos_at(request)),
+        filled: number::number(request, filled_at(request)),
+        taken: number::number(request, taken_at(request)),
+        used: number::number(request, used_at(request)),
     }
 }
 
@@ -162,11 +162,11 @@ fn with_storage(
     destination: &mut [u8],
     output: &mut [u8],
 ) -> usize {
-    let low = numbers::number(request, low_at(request));
-    let high = numbers::number(request, high_at(request));
-    let n = bytes::least(numbers::number(request, 5), storage.len());
+    let low = number::number(request, low_at(request));
+    let high = number::number(request, high_at(request));
+    let n = bytes::least(number::number(request, 5), storage.len());
     asked(
-        numbers::number(request, 1),
+        number::number(request, 1),
         &mut storage[..n],
         script,
         fields::lent(request, stock_at(request)),
@@ -185,7 +185,7 @@ fn with_destination(
     output: &mut [u8],
 ) -> usize {
     let n = bytes::least(
-        numbers::number(request, destination_at(request)),
+        number::number(request, destination_at(request)),
         destination.len(),
     );
     with_storage(request, storage, script, &mut destination[..n], output)
@@ -198,7 +198,7 @@ fn with_script(
     destination: &mut [u8],
     output: &mut [u8],
 ) -> usize {
-    let n = bytes::least(numbers::number(request, script_at(request)), script.len());
+    let n = bytes::least(number::number(request, script_at(request)), script.len());
     with_destination(request, storage, &script[..n], destination, output)
 }
 

@@ -1,7 +1,7 @@
 // A call of a writer, from a state and on bytes of the request's choice.
 use crate::answer;
 use crate::fields;
-use crate::numbers;
+use crate::number;
 use card::bytes;
 use writer::Answered;
 use writer::State;
@@ -38,9 +38,9 @@ fn put(output: &mut [u8], a: Answered, storage: &[u8], medium: &[u8]) -> usize {
     let answer = a.answer;
     let state = a.state;
     answer::put(output, answer, a.calls);
-    numbers::put(output, 12, state.held);
-    numbers::put(output, 16, state.out);
-    numbers::put(output, 20, state.used);
+    number::put(output, 12, state.held);
+    number::put(output, 16, state.out);
+    number::put(output, 20, state.used);
     let next = answer::append(output, 24, storage);
     answer::append(output, next, medium)
 }
@@ -85,9 +85,9 @@ fn slice_at(request: &[u8]) -> usize {
 
 fn state(request: &[u8]) -> State {
     State {
-        held: numbers::number(request, held_at(request)),
-        out: numbers::number(request, out_at(request)),
-        used: numbers::number(request, used_at(request)),
+        held: number::number(request, held_at(request)),
+        out: number::number(request, out_at(request)),
+        used: number::number(request, used_at(request)),
     }
 }
 
@@ -98,9 +98,9 @@ fn with_storage(
     medium: &mut [u8],
     output: &mut [u8],
 ) -> usize {
-    let n = bytes::least(numbers::number(request, 5), storage.len());
+    let n = bytes::least(number::number(request, 5), storage.len());
     asked(
-        numbers::number(request, 1),
+        number::number(request, 1),
         state(request),
         &mut storage[..n],
         script,
@@ -117,7 +117,7 @@ fn with_medium(
     medium: &mut [u8],
     output: &mut [u8],
 ) -> usize {
-    let n = bytes::least(numbers::number(request, medium_at(request)), medium.len());
+    let n = bytes::least(number::number(request, medium_at(request)), medium.len());
     with_storage(request, storage, script, &mut medium[..n], output)
 }
 
@@ -128,7 +128,7 @@ fn with_script(
     medium: &mut [u8],
     output: &mut [u8],
 ) -> usize {
-    let n = bytes::least(numbers::number(request, script_at(request)), script.len());
+    let n = bytes::least(number::number(request, script_at(request)), script.len());
     with_medium(request, storage, &script[..n], medium, output)
 }
 
