@@ -9,7 +9,6 @@ mod writing;
 use libc::STDIN_FILENO;
 use libc::STDOUT_FILENO;
 ghost use mathlib.Core.Path.{_≡_};
-ghost use Prim.Native.Nat.{_≤_};
 ghost use lib.ListN.{length};
 
 // More than the longest answer and its length.
@@ -52,7 +51,7 @@ fn send(request: &[u8], output: &mut [u8]) -> bool {
     let n = card::bytes::least(answer_to(request, &mut output[from..]), most);
     number::put(output, 0, n);
     let end = card::bytes::least(from + n, output.len());
-    io::write_all(STDOUT_FILENO, &output[..end])
+    io::write_all(STDOUT_FILENO, &output[0..end])
 }
 
 // One request; false where the input has ended or the answer does not go out.
@@ -62,10 +61,10 @@ fn serve(input: &mut [u8], output: &mut [u8]) -> bool {
         return false;
     }
     let n = card::bytes::least(number::number(&head, 0), input.len());
-    if io::read_full(STDIN_FILENO, &mut input[..n]) < n {
+    if io::read_full(STDIN_FILENO, &mut input[0..n]) < n {
         return false;
     }
-    send(&input[..n], output)
+    send(&input[0..n], output)
 }
 
 // More requests than any run has.

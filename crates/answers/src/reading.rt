@@ -167,7 +167,7 @@ fn with_storage(
     let n = bytes::least(number::number(request, 5), storage.len());
     asked(
         number::number(request, 1),
-        &mut storage[..n],
+        &mut storage[0..n],
         script,
         fields::lent(request, stock_at(request)),
         state(request),
@@ -188,7 +188,7 @@ fn with_destination(
         number::number(request, destination_at(request)),
         destination.len(),
     );
-    with_storage(request, storage, script, &mut destination[..n], output)
+    with_storage(request, storage, script, &mut destination[0..n], output)
 }
 
 fn with_script(
@@ -199,7 +199,7 @@ fn with_script(
     output: &mut [u8],
 ) -> usize {
     let n = bytes::least(number::number(request, script_at(request)), script.len());
-    with_destination(request, storage, &script[..n], destination, output)
+    with_destination(request, storage, &script[0..n], destination, output)
 }
 
 fn loaded(

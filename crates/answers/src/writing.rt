@@ -102,7 +102,7 @@ fn with_storage(
     asked(
         number::number(request, 1),
         state(request),
-        &mut storage[..n],
+        &mut storage[0..n],
         script,
         medium,
         fields::lent(request, slice_at(request)),
@@ -118,7 +118,7 @@ fn with_medium(
     output: &mut [u8],
 ) -> usize {
     let n = bytes::least(number::number(request, medium_at(request)), medium.len());
-    with_storage(request, storage, script, &mut medium[..n], output)
+    with_storage(request, storage, script, &mut medium[0..n], output)
 }
 
 fn with_script(
@@ -129,7 +129,7 @@ fn with_script(
     output: &mut [u8],
 ) -> usize {
     let n = bytes::least(number::number(request, script_at(request)), script.len());
-    with_medium(request, storage, &script[..n], medium, output)
+    with_medium(request, storage, &script[0..n], medium, output)
 }
 
 fn loaded(
