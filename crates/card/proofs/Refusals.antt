@@ -4,7 +4,7 @@ use mathlib.Core.Path.{_≡_, refl, sym, ap, _∙_}
 use mathlib.Core.Bool.{Bool, true, false}
 use Prim.Native.Nat.{ℕ, _≤_}
 use native.Mathlib.Omega.{arith}
-use borrow.Author.Tests.{ltb-false}
+use borrow.Author.Tests.{ltb-false, le-ltb}
 use lib.Dec.{ltb}
 use Rattle.laws.specs.Pick.{pick}
 use Rattle.card.specs.Limits.{refusalOf, lengthRefusal, capacityMost, scriptMost, bytesMost}
@@ -48,6 +48,17 @@ unrefused capacity script device pos filled moved used own e =
       own-none = h .1;
     }
 
+-- and where everything is within its limit, none but the call's own applies
+pub within-limits : (capacity script device pos filled moved used : ℕ) → capacity ≤ capacityMost → script ≤ scriptMost → device ≤ bytesMost → filled ≤ capacity → pos ≤ filled → moved ≤ device → used ≤ script → refusalOf capacity script device pos filled moved used 0 ≡ 0
+unfolding refusalOf
+within-limits capacity script device pos filled moved used a b c d e f g =
+    rw (le-ltb capacityMost capacity a, le-ltb scriptMost script b, le-ltb bytesMost device c, le-ltb capacity filled d, le-ltb filled pos e, le-ltb device moved f, le-ltb script used g) refl
+
+-- a slice or destination that is not too long
 pub length-unrefused : (n : ℕ) → lengthRefusal n ≡ 0 → n ≤ bytesMost
 unfolding lengthRefusal
 length-unrefused n e = passed bytesMost n 2 0 (omega arith) e .0
+
+pub length-within : (n : ℕ) → n ≤ bytesMost → lengthRefusal n ≡ 0
+unfolding lengthRefusal
+length-within n h = rw (le-ltb bytesMost n h) refl

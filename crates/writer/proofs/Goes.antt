@@ -1,4 +1,4 @@
--- What `write_all` leaves where it succeeds: a fit world, in which a next step can go on.
+-- What `write_all` leaves: as much storage and medium, and where it succeeds a fit world, in which a next step can go on.
 -- Assumes nothing.
 use mathlib.Core.Path.{_≡_, refl, sym, ap, _∙_, subst}
 use mathlib.Core.Bool.{Bool, true, false}
@@ -9,19 +9,23 @@ use lib.ListN.{length, drop, length-drop}
 use Rattle.laws.specs.Put.{put}
 use Rattle.laws.proofs.Puts.{length-put}
 use Rattle.card.specs.Answers.{Said, done}
-use Rattle.writer.specs.declared.Outcome.{Outcome}
-use Rattle.writer.specs.declared.Outcome.the-variants.{Done, Zero, Failed}
-use Rattle.writer.specs.declared.Sent.{Sent}
-use Rattle.writer.specs.World.{World, Called, Fit, capacity, room, replies, isOk, kept}
-use Rattle.writer.specs.Send.{wholeSaid, sendFrom}
-use Rattle.writer.specs.Writer.{flushBuf, stored, placed, takenBy, deviceWriteAll, writeAll}
-use Rattle.writer.proofs.Sends.{Within, within}
-use Rattle.writer.proofs.Flushes.{Keeps, keeps}
-use Rattle.writer.proofs.Cases.{failed-not-done, flush-ok-done, written-cases, placed-by}
+use Rattle.flushing.specs.declared.Outcome.{Outcome}
+use Rattle.flushing.specs.declared.Outcome.the-variants.{Done, Zero, Failed}
+use Rattle.flushing.specs.declared.Sent.{Sent}
+use Rattle.flushing.specs.World.{World, Called, Fit, capacity, room, replies, isOk, kept}
+use Rattle.flushing.specs.Send.{wholeSaid, sendFrom}
+use Rattle.flushing.specs.Flush.{flushBuf}
+use Rattle.writer.specs.Writer.{stored, placed, takenBy, deviceWriteAll, writeAll}
+use Rattle.flushing.proofs.Sends.{Within, within}
+use Rattle.flushing.proofs.Flushes.{Keeps, keeps}
+use Rattle.flushing.proofs.Cases.{flush-ok-done}
+use Rattle.writer.proofs.Cases.{written-cases, placed-by}
 
 pub record Goes (script : List ℕ) (w : World) (c : Called) : Type 0 where
   pub fit : isOk (c .answer) ≡ true → Fit script (c .world)
   pub flushes : c .world .flushes ≡ w .flushes
+  pub storage-long : length (c .world .storage) ≡ length (w .storage)
+  pub medium-long : length (c .world .medium) ≡ length (w .medium)
 
 whole-done : (o : Outcome) → isOk (wholeSaid o) ≡ true → o ≡ Done
 whole-done Done e = refl
@@ -46,6 +50,8 @@ taken-goes script w s f fit k =
             few = omega (arith, k .done (whole-done (f .outcome) e) .1, fit .few);
           };
       flushes = refl;
+      storage-long = refl;
+      medium-long = long;
     }
 
 pub device-all-goes : (script : List ℕ) (w : World) (s : List ℕ) → Fit script w → Goes script w (deviceWriteAll script w s)
@@ -55,11 +61,11 @@ device-all-goes script w s fit = taken-goes script w s _ fit (within (replies sc
 stored-goes : (script : List ℕ) (w : World) (s : List ℕ) (a : Said) → Fit script w → w .held + length s ≤ length (w .storage) → Goes script w (stored a w s)
 stored-goes script w s a fit h =
     let long = length-put (w .storage) (w .held) s (length s) h (omega arith) in
-    record { fit = λ e. record { held = omega (arith, long); out = fit .out; used = fit .used; few = fit .few }; flushes = refl }
+    record { fit = λ e. record { held = omega (arith, long); out = fit .out; used = fit .used; few = fit .few }; flushes = refl; storage-long = long; medium-long = refl }
 
--- from a world that has made as many device flushes
-from : (script : List ℕ) (w v : World) (c : Called) → v .flushes ≡ w .flushes → Goes script v c → Goes script w c
-from script w v c e g = record { fit = g .fit; flushes = g .flushes ∙ e }
+-- from a world that has made as many device flushes, and has as much storage and medium
+from : (script : List ℕ) (w v : World) (c : Called) → v .flushes ≡ w .flushes → length (v .storage) ≡ length (w .storage) → length (v .medium) ≡ length (w .medium) → Goes script v c → Goes script w c
+from script w v c e x y g = record { fit = g .fit; flushes = g .flushes ∙ e; storage-long = g .storage-long ∙ x; medium-long = g .medium-long ∙ y }
 
 pub write-all-goes : (script : List ℕ) (w : World) (s : List ℕ) → Fit script w → Goes script w (writeAll script w s)
 unfolding writeAll
@@ -70,8 +76,10 @@ write-all-goes script w s fit =
     (λ z l. device-all-goes script w s fit)
     (λ v q f z l.
     let same : v .flushes ≡ w .flushes = rw q at (k .flushes-same) in
-    placed-by done (λ u. deviceWriteAll script u s) v s (λ (c : Called). Goes script w c) (λ m. from script w v _ same (device-all-goes script v s f)) (λ m. from script w v _ same (stored-goes script v s done f (omega arith))))
-    (λ e l. record { fit = λ o. absurd (stopped-fails script w e o); flushes = k .flushes-same })
+    let storages : length (v .storage) ≡ length (w .storage) = rw q at (k .storage-long) in
+    let mediums : length (v .medium) ≡ length (w .medium) = rw q at (k .medium-long) in
+    placed-by done (λ u. deviceWriteAll script u s) v s (λ (c : Called). Goes script w c) (λ m. from script w v _ same storages mediums (device-all-goes script v s f)) (λ m. from script w v _ same storages mediums (stored-goes script v s done f (omega arith))))
+    (λ e l. record { fit = λ o. absurd (stopped-fails script w e o); flushes = k .flushes-same; storage-long = k .storage-long; medium-long = k .medium-long })
   where
     stopped-fails : (script′ : List ℕ) (v : World) → (flushBuf script′ v .answer ≡ done → ⊥) → isOk (flushBuf script′ v .answer) ≡ true → ⊥
     stopped-fails script′ v e o = e (flush-ok-done script′ v o)

@@ -1,30 +1,17 @@
 -- Module 3, the buffered writer: what each call does where it meets no refusal, and what it promises on every input.
 -- Assumes nothing.
-use Prim.Native.Nat.{ℕ, _+_, _-_, min}
+use Prim.Native.Nat.{ℕ, _+_, min}
 use mathlib.Core.List.{List}
 use lib.ListN.{length}
-use lib.Dec.{leb, ltb, eqb}
+use lib.Dec.{leb, ltb}
 use Rattle.laws.specs.Pick.{pick}
 use Rattle.card.specs.Answers.{Said, ok, done}
 use Rattle.card.specs.Limits.{lengthRefusal}
 use Rattle.card.specs.Device.{exchange, moves}
-use Rattle.writer.specs.declared.Sent.{Sent}
-use Rattle.writer.specs.World.{World, Called, capacity, spare, room, replies, taken, drained, kept, andThen, nothing, refusing}
-use Rattle.writer.specs.Send.{flushSaid, wholeSaid, writeSaid, flushReplySaid, sendFrom}
-
--- ---- `flush_buf`
-
--- However it ends, the bytes taken are drained once
-abbrev pub flushedBy : World → Sent → Called
-flushedBy w f =
-    record {
-      answer = flushSaid (f .outcome);
-      world = drained (taken w (w .storage) (f .sent) (f .used) (f .writes)) (f .sent);
-    }
-
--- The unwritten rest of the storage is offered again until none is left
-unfoldable pub flushBuf : List ℕ → World → Called
-flushBuf script w = flushedBy w (sendFrom (replies script w) (w .held) (room w) 0 (w .used) (w .writes))
+use Rattle.flushing.specs.declared.Sent.{Sent}
+use Rattle.flushing.specs.World.{World, Called, capacity, spare, room, replies, taken, kept, andThen, nothing, refusing}
+use Rattle.flushing.specs.Send.{wholeSaid, writeSaid, flushReplySaid, sendFrom}
+use Rattle.flushing.specs.Flush.{flushBuf}
 
 -- ---- `write` and `write_all`
 
@@ -90,9 +77,6 @@ unfoldable pub flush : List ℕ → World → Called
 flush script w = andThen (flushBuf script w) (λ v. deviceFlush script v)
 
 -- ---- on every input
-
-unfoldable pub flushBufCall : List ℕ → World → Called
-flushBufCall script w = refusing script w 0 (λ v. flushBuf script v)
 
 unfoldable pub writeCall : List ℕ → World → List ℕ → Called
 writeCall script w s = refusing script w (lengthRefusal (length s)) (λ v. write script v s)

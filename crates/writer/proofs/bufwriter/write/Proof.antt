@@ -1,6 +1,7 @@
 -- `writer::bufwriter::write` meets its contract. Assumes nothing.
-use Rattle.writer.proofs.Calls.{with-own, refused-is, unrefused-is, fit-unrefused}
-use Rattle.writer.specs.Writer.{writeCall}
+use Rattle.flushing.proofs.Calls.{with-own, refused-is, unrefused-is, unrefused-sound, limits}
+use Rattle.writer.specs.Writer.{write, writeCall}
+use Rattle.writer.proofs.Calls.{road-hot, road-cold}
 use borrow.Author.Needs.{needs}
 use Rattle.writer.proofs.bufwriter.write.Statement.{statement}
 use Rattle.writer.proofs.bufwriter.write.Tie as tie
@@ -13,20 +14,36 @@ refusal-requires c κs = search needs
 
 returns : tie.Need-returns
 unfolding writeCall
-returns c = refused-is _ _ _ (c .before .before .before .before .before .before .before .args .state) _ _ _ (with-own _ _ _ _ _ _ _ _ _ _ (c .before .refusal .ensures) (c .before .before .length-refusal .ensures)) (c .if1 .taken)
+returns c = refused-is _ _ _ (c .before .before .before .before .before .before .before .args .state) _ _ (with-own _ _ _ _ _ _ _ _ _ _ (c .before .refusal .ensures) (c .before .before .length-refusal .ensures)) _ (c .if1 .taken)
 
-write-fit-requires : tie.Need-write-fit-requires
-write-fit-requires c κs = fit-unrefused _ _ _ (c .before .before .before .before .before .before .before .before .before .args .state) _ _ (c .before .before .before .refusal .ensures) (c .before .before .if1 .left)
+sub-if2 : tie.Need-sub-if2
+sub-if2 c = limits _ _ (unrefused-sound (c .before .before .before .before .before .before .before .args .script .now) (c .before .before .before .before .before .before .before .args .storage .now) (c .before .before .before .before .before .before .before .args .medium .now) (c .before .before .before .before .before .before .before .args .state) _ _ (c .before .refusal .ensures) (c .if1 .left)) .filled-fits
+
+copy-requires : tie.Need-copy-requires
+copy-requires c κs = search needs
+
+add-t20 : tie.Need-add-t20
+add-t20 c = search needs
 
 same-length : tie.Need-same-length
 same-length c = search needs
 
+returns-2 : tie.Need-returns-2
+unfolding writeCall write
+returns-2 c = unrefused-is _ _ _ (c .before .before .before .before .before .before .before .before .before .before .before .before .args .state) _ _ (with-own _ _ _ _ _ _ _ _ _ _ (c .before .before .before .before .before .before .refusal .ensures) (c .before .before .before .before .before .before .before .length-refusal .ensures)) _ _ (c .before .before .before .before .before .if1 .left) (road-hot _ _ _ _ (c .before .before .before .before .before .before .before .before .before .before .before .before .args .state) _ _ _ _ (c .before .before .copy .ensures) (c .before .before .before .before .if2 .taken))
+
+write-cold-requires : tie.Need-write-cold-requires
+write-cold-requires c κs = unrefused-sound (c .before .before .before .before .before .before .before .before .before .before .args .script .now) (c .before .before .before .before .before .before .before .before .before .before .args .storage .now) (c .before .before .before .before .before .before .before .before .before .before .args .medium .now) (c .before .before .before .before .before .before .before .before .before .before .args .state) _ _ (c .before .before .before .before .refusal .ensures) (c .before .before .before .if1 .left)
+
 same-length-2 : tie.Need-same-length-2
 same-length-2 c = search needs
 
-returns-2 : tie.Need-returns-2
-unfolding writeCall
-returns-2 c = unrefused-is _ _ _ (c .before .before .before .before .before .before .before .before .before .before .before .before .before .before .args .state) _ _ _ (with-own _ _ _ _ _ _ _ _ _ _ (c .before .before .before .before .before .before .before .before .refusal .ensures) (c .before .before .before .before .before .before .before .before .before .length-refusal .ensures)) _ (c .before .before .before .before .before .before .before .if1 .left) (c .before .before .before .before .write-fit .ensures)
+same-length-3 : tie.Need-same-length-3
+same-length-3 c = search needs
+
+returns-3 : tie.Need-returns-3
+unfolding writeCall write
+returns-3 c = unrefused-is _ _ _ (c .before .before .before .before .before .before .before .before .before .before .before .before .before .before .before .args .state) _ _ (with-own _ _ _ _ _ _ _ _ _ _ (c .before .before .before .before .before .before .before .before .before .refusal .ensures) (c .before .before .before .before .before .before .before .before .before .before .length-refusal .ensures)) _ _ (c .before .before .before .before .before .before .before .before .if1 .left) (road-cold _ _ _ _ _ _ (c .before .before .before .before .write-cold .ensures) (c .before .before .before .before .before .before .before .if2 .left))
 
 pub write-spec : {M : Type 1} → statement M
 write-spec =
@@ -35,7 +52,12 @@ write-spec =
     length-refusal-requires
     refusal-requires
     returns
-    write-fit-requires
+    sub-if2
+    copy-requires
+    add-t20
     same-length
+    returns-2
+    write-cold-requires
     same-length-2
-    returns-2)
+    same-length-3
+    returns-3)

@@ -8,14 +8,13 @@ use lib.ListN.{length, take, drop, length-drop}
 use Rattle.laws.specs.Put.{put}
 use Rattle.laws.proofs.Puts.{length-put}
 use Rattle.card.specs.Answers.{Said, done}
-use Rattle.writer.specs.declared.Outcome.{Outcome}
-use Rattle.writer.specs.declared.Outcome.the-variants.{Done, Zero, Failed}
-use Rattle.writer.specs.declared.Sent.{Sent}
-use Rattle.writer.specs.declared.Flushed.{Flushed}
-use Rattle.writer.specs.World.{World, Called, Fit, worldAfter, flushedTold, replies, room}
-use Rattle.writer.specs.Send.{flushSaid, sendFrom}
-use Rattle.writer.specs.Writer.{flushBuf, flushedBy}
-use Rattle.writer.proofs.Sends.{Within, within}
+use Rattle.flushing.specs.declared.Outcome.{Outcome}
+use Rattle.flushing.specs.declared.Outcome.the-variants.{Done, Zero, Failed}
+use Rattle.flushing.specs.declared.Sent.{Sent}
+use Rattle.flushing.specs.World.{World, Called, Fit, replies, room}
+use Rattle.flushing.specs.Send.{flushSaid, sendFrom}
+use Rattle.flushing.specs.Flush.{flushBuf, flushedBy}
+use Rattle.flushing.proofs.Sends.{Within, within}
 
 pub record Keeps (script : List ℕ) (w : World) (c : Called) : Type 0 where
   pub storage-long : length (c .world .storage) ≡ length (w .storage)

@@ -1,7 +1,7 @@
--- `writer::bufwriter::flush_answer` meets its contract. Assumes nothing.
+-- `flushing::flush::flush_answer` meets its contract. Assumes nothing.
 use borrow.Author.Needs.{needs}
-use Rattle.writer.proofs.bufwriter.flush_answer.Statement.{statement}
-use Rattle.writer.proofs.bufwriter.flush_answer.Tie as tie
+use Rattle.flushing.proofs.flush.flush_answer.Statement.{statement}
+use Rattle.flushing.proofs.flush.flush_answer.Tie as tie
 
 enum-told : tie.Need-enum-told
 enum-told c = search needs

@@ -1,22 +1,22 @@
--- `writer::send::send_all` meets its contract, by the invariant and the turns of `Turn`. Assumes nothing.
+-- `flushing::send::send_all` meets its contract, by the invariant and the turns of `Turn`. Assumes nothing.
 use mathlib.Core.Path.{_≡_, refl, sym, ap, _∙_}
 use Prim.Native.Nat.{ℕ, _-_}
 use native.Mathlib.Omega.{arith}
 use borrow.Author.Needs.{needs}
 use lib.ListN.{length}
-use Rattle.writer.proofs.Turn.{Inv, begins, ends-done, accepted, accepted-less, within, ends-zero, interrupted, interrupted-less, ends-failed}
-use Rattle.writer.proofs.send.send_all.Statement.{statement}
-use Rattle.writer.proofs.send.send_all.Tie as tie
+use Rattle.flushing.proofs.Turn.{Inv, begins, ends-done, accepted, accepted-less, within, ends-zero, interrupted, interrupted-less, ends-failed}
+use Rattle.flushing.proofs.send.send_all.Statement.{statement}
+use Rattle.flushing.proofs.send.send_all.Tie as tie
 
 abbrev Inv-loop : tie.InvT-loop
-Inv-loop source script used medium₀ out writes sent₀ at₀ made₀ medium sent at made = Inv source script used medium₀ out writes medium sent at made
+Inv-loop source script used medium₀ out sent₀ at₀ made₀ medium sent at made = Inv source script used medium₀ out medium sent at made
 
 abbrev μ-loop : tie.MeasureT-loop
-μ-loop source script used medium₀ out writes sent₀ at₀ made₀ medium sent at made = length script - at
+μ-loop source script used medium₀ out sent₀ at₀ made₀ medium sent at made = length script - at
 
 loop-holds : tie.Need-loop-holds Inv-loop μ-loop
 loop-holds c =
-    begins _ _ _ _ _ _ (c .before .before .before .pre .0) (c .before .before .before .pre .1 .0)
+    begins _ _ _ _ _
 
 sub-write : tie.Need-sub-write Inv-loop μ-loop
 sub-write c = search needs
@@ -43,20 +43,20 @@ add-sent : tie.Need-add-sent Inv-loop μ-loop
 add-sent c =
     let w = c .before .before .before .before .before .before in
     let at-loop = w .before .before .before .before in
-    let h = within _ _ _ _ _ _ _ _ _ _ (at-loop .loop .inv) _ _ (w .write .ensures .0) (w .write .ensures .1) (w .before .before .before .if1 .left) _ (c .before .before .reply .given .1) in
+    let h = within _ _ _ _ _ _ _ _ _ (at-loop .loop .inv) _ _ (w .write .ensures .0) (w .write .ensures .1) (w .before .before .before .if1 .left) _ (c .before .before .reply .given .1) in
     omega (arith, h .0)
 
 loop-less : tie.Need-loop-less Inv-loop μ-loop
 loop-less c =
     let w = c .before .before .before .before .before .before in
     let at-loop = w .before .before .before .before in
-    accepted-less _ _ _ _ _ _ _ _ _ _ (at-loop .loop .inv) _ _ (w .write .ensures .0) (w .write .ensures .1) (w .before .before .before .if1 .left) _ (c .before .before .reply .given .1)
+    accepted-less _ _ _ _ _ _ _ _ _ (at-loop .loop .inv) _ _ (w .write .ensures .0) (w .write .ensures .1) (w .before .before .before .if1 .left) _ (c .before .before .reply .given .1)
 
 loop-again : tie.Need-loop-again Inv-loop μ-loop
 loop-again c =
     let w = c .before .before .before .before .before .before in
     let at-loop = w .before .before .before .before in
-    accepted _ _ _ _ _ _ _ _ _ _ (at-loop .loop .inv) _ _ (w .write .ensures .0) (w .write .ensures .1) (w .before .before .before .if1 .left) _ (c .before .before .reply .given .1) (c .if2 .left)
+    accepted _ _ _ _ _ _ _ _ _ (at-loop .loop .inv) _ _ (w .write .ensures .0) (w .write .ensures .1) (w .before .before .before .if1 .left) _ (c .before .before .reply .given .1) (c .if2 .left)
 
 enum-told : tie.Need-enum-told Inv-loop μ-loop
 enum-told c = search needs
@@ -65,13 +65,13 @@ loop-less-2 : tie.Need-loop-less-2 Inv-loop μ-loop
 loop-less-2 c =
     let w = c .before .before .before .before in
     let at-loop = w .before .before .before .before in
-    interrupted-less _ _ _ _ _ _ _ _ _ _ (at-loop .loop .inv) _ _ (w .write .ensures .0) (w .write .ensures .1) (w .before .before .before .if1 .left) (c .enum-told .given .1)
+    interrupted-less _ _ _ _ _ _ _ _ _ (at-loop .loop .inv) _ _ (w .write .ensures .0) (w .write .ensures .1) (w .before .before .before .if1 .left) (c .enum-told .given .1)
 
 loop-again-2 : tie.Need-loop-again-2 Inv-loop μ-loop
 loop-again-2 c =
     let w = c .before .before .before .before in
     let at-loop = w .before .before .before .before in
-    interrupted _ _ _ _ _ _ _ _ _ _ (at-loop .loop .inv) _ _ (w .write .ensures .0) (w .write .ensures .1) (w .before .before .before .if1 .left) (c .enum-told .given .1)
+    interrupted _ _ _ _ _ _ _ _ _ (at-loop .loop .inv) _ _ (w .write .ensures .0) (w .write .ensures .1) (w .before .before .before .if1 .left) (c .enum-told .given .1)
 
 enum-known-reply-2 : tie.Need-enum-known-reply-2 Inv-loop μ-loop
 enum-known-reply-2 c = search needs
@@ -82,7 +82,7 @@ same-length c =
 
 returns : tie.Need-returns Inv-loop μ-loop
 returns c =
-    ends-done _ _ _ _ _ _ _ _ _ _ (c .before .loop .inv) (c .if1 .taken)
+    ends-done _ _ _ _ _ _ _ _ _ (c .before .loop .inv) (c .if1 .taken)
 
 same-length-2 : tie.Need-same-length-2 Inv-loop μ-loop
 same-length-2 c =
@@ -94,7 +94,7 @@ returns-2 : tie.Need-returns-2 Inv-loop μ-loop
 returns-2 c =
     let w = c .before .before .before .before .before .before in
     let at-loop = w .before .before .before .before in
-    ends-zero _ _ _ _ _ _ _ _ _ _ (at-loop .loop .inv) _ _ (w .write .ensures .0) (w .write .ensures .1) (w .before .before .before .if1 .left) _ (c .before .before .reply .given .1) (c .if2 .taken)
+    ends-zero _ _ _ _ _ _ _ _ _ (at-loop .loop .inv) _ _ (w .write .ensures .0) (w .write .ensures .1) (w .before .before .before .if1 .left) _ (c .before .before .reply .given .1) (c .if2 .taken)
 
 same-length-3 : tie.Need-same-length-3 Inv-loop μ-loop
 same-length-3 c =
@@ -106,7 +106,7 @@ returns-3 : tie.Need-returns-3 Inv-loop μ-loop
 returns-3 c =
     let w = c .before .before .before .before .before in
     let at-loop = w .before .before .before .before in
-    ends-failed _ _ _ _ _ _ _ _ _ _ (at-loop .loop .inv) _ _ (w .write .ensures .0) (w .write .ensures .1) (w .before .before .before .if1 .left) _ (c .before .reply2 .given .1)
+    ends-failed _ _ _ _ _ _ _ _ _ (at-loop .loop .inv) _ _ (w .write .ensures .0) (w .write .ensures .1) (w .before .before .before .if1 .left) _ (c .before .reply2 .given .1)
 
 pub send-all-spec : {M : Type 1} → statement M
 send-all-spec =

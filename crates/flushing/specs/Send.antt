@@ -8,9 +8,9 @@ use Rattle.card.specs.declared.Reply.{Reply}
 use Rattle.card.specs.declared.Reply.the-variants.{Accept, Interrupted, Error}
 use Rattle.card.specs.Answers.{Said, ok, done, interrupted, zero-taken, whole, error}
 use Rattle.card.specs.Device.{replyOf, atMost}
-use Rattle.writer.specs.declared.Outcome.{Outcome}
-use Rattle.writer.specs.declared.Outcome.the-variants.{Done, Zero, Failed}
-use Rattle.writer.specs.declared.Sent.{Sent}
+use Rattle.flushing.specs.declared.Outcome.{Outcome}
+use Rattle.flushing.specs.declared.Outcome.the-variants.{Done, Zero, Failed}
+use Rattle.flushing.specs.declared.Sent.{Sent}
 
 -- what an outcome says of a flush of the buffer: "Taken 0 answers zero"
 abbrev pub flushSaid : Outcome → Said

@@ -9,16 +9,17 @@ use native.Mathlib.Nat.{add-zero, sub-zero}
 use native.Mathlib.Omega.{arith}
 use lib.ListN.{length, drop}
 use lib.Dec.{eqb}
+use Rattle.laws.specs.Pick.{pick}
 use borrow.Author.Tests.{eq-eqb, ne-eqb}
 use Rattle.card.specs.declared.Reply.{Reply}
 use Rattle.card.specs.declared.Reply.the-variants.{Accept, Interrupted, Error}
 use Rattle.card.specs.declared.Exchange.{Exchange}
 use Rattle.card.specs.Device.{replyOf, next, takes, atMost, moves, exchange}
 use Rattle.card.proofs.Replies.{moves-most, takes-most}
-use Rattle.writer.specs.declared.Outcome.{Outcome}
-use Rattle.writer.specs.declared.Outcome.the-variants.{Done, Zero, Failed}
-use Rattle.writer.specs.declared.Sent.{Sent}
-use Rattle.writer.specs.Send.{sendFrom, sentBy}
+use Rattle.flushing.specs.declared.Outcome.{Outcome}
+use Rattle.flushing.specs.declared.Outcome.the-variants.{Done, Zero, Failed}
+use Rattle.flushing.specs.declared.Sent.{Sent}
+use Rattle.flushing.specs.Send.{sendFrom, sentBy, onReply}
 
 -- none is left
 pub send-done : (l : List ℕ) (left room sent used writes : ℕ) → left ≡ 0 → sendFrom l left room sent used writes ≡ sentBy Done sent used writes
@@ -154,3 +155,34 @@ within [] left room sent used writes = by (decLe left 0)
     by (yes z) = rw (send-done [] left room sent used writes (omega arith)) (ends [] left room sent used writes (omega arith))
     by (no z) = rw (send-failed [] left room sent used writes 0 (at-nothing left room) (omega arith)) (stops [] left room sent used writes _ (Failed 0) (λ d. failed-not-done 0 d) (omega arith) (takes-most []))
 within (n ∷ rest) left room sent used writes = either n rest left room sent used writes (λ a b c d e. within rest a b c d e) (decLe left 0)
+
+-- ---- a run that is counted from k device writes on
+
+abbrev pub later : ℕ → Sent → Sent
+later k f = sentBy (f .outcome) (f .sent) (f .used) (k + f .writes)
+
+one-more : (k writes : ℕ) → k + writes + 1 ≡ k + (writes + 1)
+one-more k writes = omega arith
+
+-- what comes after the first reply, when the rest is counted so
+turn-later : (rest : List ℕ) (left room sent used writes k : ℕ) → ((a b c : ℕ) → sendFrom rest a b c (used + 1) (k + (writes + 1)) ≡ later k (sendFrom rest a b c (used + 1) (writes + 1))) → (r : Reply) → onReply r (λ (a : ℕ). pick (eqb a 0) (sentBy Zero sent (used + 1) (k + writes + 1)) (sendFrom rest (left - a) (room - a) (sent + a) (used + 1) (k + writes + 1))) (sendFrom rest left room sent (used + 1) (k + writes + 1)) (λ (code : ℕ). sentBy (Failed code) sent (used + 1) (k + writes + 1)) ≡ later k (onReply r (λ (a : ℕ). pick (eqb a 0) (sentBy Zero sent (used + 1) (writes + 1)) (sendFrom rest (left - a) (room - a) (sent + a) (used + 1) (writes + 1))) (sendFrom rest left room sent (used + 1) (writes + 1)) (λ (code : ℕ). sentBy (Failed code) sent (used + 1) (writes + 1)))
+turn-later rest left room sent used writes k on (Accept a) = by (eqb a 0)
+  where
+    by : (z : Bool) → pick z (sentBy Zero sent (used + 1) (k + writes + 1)) (sendFrom rest (left - a) (room - a) (sent + a) (used + 1) (k + writes + 1)) ≡ later k (pick z (sentBy Zero sent (used + 1) (writes + 1)) (sendFrom rest (left - a) (room - a) (sent + a) (used + 1) (writes + 1)))
+    by true = ap (λ (m : ℕ). sentBy Zero sent (used + 1) m) (one-more k writes)
+    by false = rw (one-more k writes) (on (left - a) (room - a) (sent + a))
+turn-later rest left room sent used writes k on Interrupted = rw (one-more k writes) (on left room sent)
+turn-later rest left room sent used writes k on (Error code) = ap (λ (m : ℕ). sentBy (Failed code) sent (used + 1) m) (one-more k writes)
+
+pub send-later : (l : List ℕ) (left room sent used writes k : ℕ) → sendFrom l left room sent used (k + writes) ≡ later k (sendFrom l left room sent used writes)
+unfolding sendFrom
+send-later [] left room sent used writes k = by (eqb left 0)
+  where
+    by : (t : Bool) → pick t (sentBy Done sent used (k + writes)) (sentBy (Failed 0) sent used (k + writes + 1)) ≡ later k (pick t (sentBy Done sent used writes) (sentBy (Failed 0) sent used (writes + 1)))
+    by true = refl
+    by false = ap (λ (m : ℕ). sentBy (Failed 0) sent used m) (one-more k writes)
+send-later (n ∷ rest) left room sent used writes k = by (eqb left 0) (λ a b c. send-later rest a b c (used + 1) (writes + 1) k)
+  where
+    by : (t : Bool) → ((a b c : ℕ) → sendFrom rest a b c (used + 1) (k + (writes + 1)) ≡ later k (sendFrom rest a b c (used + 1) (writes + 1))) → pick t (sentBy Done sent used (k + writes)) (onReply (atMost (min left room) (replyOf n)) (λ (a : ℕ). pick (eqb a 0) (sentBy Zero sent (used + 1) (k + writes + 1)) (sendFrom rest (left - a) (room - a) (sent + a) (used + 1) (k + writes + 1))) (sendFrom rest left room sent (used + 1) (k + writes + 1)) (λ (code : ℕ). sentBy (Failed code) sent (used + 1) (k + writes + 1))) ≡ later k (pick t (sentBy Done sent used writes) (onReply (atMost (min left room) (replyOf n)) (λ (a : ℕ). pick (eqb a 0) (sentBy Zero sent (used + 1) (writes + 1)) (sendFrom rest (left - a) (room - a) (sent + a) (used + 1) (writes + 1))) (sendFrom rest left room sent (used + 1) (writes + 1)) (λ (code : ℕ). sentBy (Failed code) sent (used + 1) (writes + 1))))
+    by true on = refl
+    by false on = turn-later rest left room sent used writes k on (atMost (min left room) (replyOf n))

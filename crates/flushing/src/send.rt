@@ -4,27 +4,26 @@ use crate::Sent;
 use card::Reply;
 use card::device;
 ghost use mathlib.Core.Path.{_≡_};
-ghost use Prim.Native.Nat.{_+_, _-_, _≤_};
+ghost use Prim.Native.Nat.{_-_};
 ghost use lib.ListN.{length, drop};
 ghost use Rattle.laws.specs.Put.{put};
-ghost use Rattle.writer.specs.Send.{sendFrom};
+ghost use Rattle.flushing.specs.Send.{sendFrom};
 
 // Offers the unwritten rest of source to the device until none is left, or until it takes nothing
-// or fails. `writes` device writes were made before.
-pub(crate) fn send_all(
+// or fails. It refuses nothing: past the script's end a device write fails, and past the medium's
+// end it takes nothing.
+pub fn send_all(
     source: &[u8],
     script: &[u32],
     used: usize,
     medium: &mut [u8],
     out: usize,
-    writes: usize,
 ) -> Sent
-    requires { ⌜ (used ≤ length (now script)) × ((out ≤ length (now medium)) × (writes ≤ used)) ⌝ }
-    ensures { λ r. ⌜ (r ≡ sendFrom (drop used (now (script .entry))) (length (now (source .entry))) (length (now (medium .entry)) - out) 0 used writes) × (now (medium .exit) ≡ put (now (medium .entry)) out (now (source .entry)) (r .sent)) ⌝ }
+    ensures { λ r. ⌜ (r ≡ sendFrom (drop used (now (script .entry))) (length (now (source .entry))) (length (now (medium .entry)) - out) 0 used 0) × (now (medium .exit) ≡ put (now (medium .entry)) out (now (source .entry)) (r .sent)) ⌝ }
 {
     let mut sent = 0;
     let mut at = used;
-    let mut made = writes;
+    let mut made = 0;
     let outcome = loop {
         if source.len() <= sent {
             break Outcome::Done;

@@ -1,5 +1,6 @@
 -- What a writer's call works on, and what it leaves.
 -- Assumes nothing.
+use mathlib.Core.Path.{_≡_}
 use Prim.Native.Nat.{ℕ, _+_, _-_, _≤_}
 use mathlib.Core.Bool.{Bool, false}
 use mathlib.Core.List.{List, [], _∷_}
@@ -9,10 +10,8 @@ use Rattle.laws.specs.Pick.{pick}
 use Rattle.laws.specs.Put.{put}
 use Rattle.card.specs.Answers.{Said, said, done, refused}
 use Rattle.card.specs.Limits.{refusalOf}
-use Rattle.writer.specs.declared.State.{State}
-use Rattle.writer.specs.declared.Answered.{Answered}
-use Rattle.writer.specs.declared.Flushed.{Flushed}
-use Rattle.writer.specs.Send.{flushSaid}
+use Rattle.flushing.specs.declared.State.{State}
+use Rattle.flushing.specs.declared.Answered.{Answered}
 
 -- The lent storage and medium, the state's numbers, and the device calls that the call has made so far
 pub record World : Type 0 where
@@ -139,6 +138,10 @@ worldOf state storage medium = worldAfter state storage medium 0
 abbrev pub fresh : State
 fresh = record { held = 0; out = 0; used = 0 }
 
+-- a new writer on storage and medium touched by nothing else
+abbrev pub new : List ℕ → List ℕ → World
+new storage medium = worldOf fresh storage medium
+
 -- a world whose numbers are within their lists, when each device write so far took a reply
 pub record Fit (script : List ℕ) (w : World) : Type 0 where
   pub held : w .held ≤ length (w .storage)
@@ -146,9 +149,9 @@ pub record Fit (script : List ℕ) (w : World) : Type 0 where
   pub used : w .used ≤ length script
   pub few : w .writes ≤ w .used
 
--- what a flush of the buffer tells inside
-abbrev pub flushedTold : Flushed → List ℕ → List ℕ → Called
-flushedTold r storage medium = record { answer = flushSaid (r .outcome); world = worldAfter (r .state) storage medium (r .writes) }
+-- a world at which no call is refused but for its own reason
+pub record Sound (script : List ℕ) (w : World) : Type 0 where
+  pub none : refusalOf (capacity w) (length script) (length (w .medium)) 0 (w .held) (w .out) (w .used) 0 ≡ 0
 
 -- what a call tells: its answer, its count of device calls, the new state and every lent byte
 pub record Told : Type 0 where

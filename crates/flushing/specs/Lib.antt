@@ -1,0 +1,3 @@
+pub mod World
+pub mod Send
+pub mod Flush

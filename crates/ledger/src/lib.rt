@@ -1,0 +1,1 @@
+// The ledger of both writers. No functions.
