@@ -3,10 +3,11 @@ use crate::answer;
 use crate::fields;
 use crate::number;
 use card::bytes;
-use writer::Answered;
-use writer::State;
+use flushing::Answered;
+use flushing::State;
+use flushing::flush;
 use writer::bufwriter;
-use writer::linewriter;
+use lines::linewriter;
 
 fn run(
     call: usize,
@@ -26,7 +27,7 @@ fn run(
         return bufwriter::flush(state, storage, script, medium);
     }
     if call == 3 {
-        return bufwriter::flush_buf(state, storage, script, medium);
+        return flush::flush_buf(state, storage, script, medium);
     }
     if call == 4 {
         return linewriter::write(state, storage, script, medium, slice);

@@ -45,6 +45,9 @@ module _ (script st me : List ℕ) (state : State) (number own : ℕ) (pn : numb
   limits-of : number ≡ 0 → Unrefused (length st) (length script) (length me) 0 (state .held) (state .out) (state .used) own
   limits-of h = unrefused (length st) (length script) (length me) 0 (state .held) (state .out) (state .used) own (sym pn ∙ h)
 
+  pub unrefused-own : number ≡ 0 → own ≡ 0
+  unrefused-own h = limits-of h .own-none
+
   -- a world that a call was not refused at is sound
   pub unrefused-sound : number ≡ 0 → Sound script (worldOf state st me)
   unrefused-sound h =

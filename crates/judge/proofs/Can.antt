@@ -17,15 +17,16 @@ use Rattle.card.specs.declared.Reply.the-variants.{Accept, Interrupted, Error}
 use Rattle.card.specs.declared.Exchange.{Exchange}
 use Rattle.card.specs.Answers.{Said, ok, done, interrupted, zero-taken, error}
 use Rattle.card.specs.Device.{replyOf, next, takes, atMost, exchange, moves}
-use Rattle.writer.specs.declared.Outcome.{Outcome}
-use Rattle.writer.specs.declared.Outcome.the-variants.{Done, Zero, Failed}
-use Rattle.writer.specs.declared.Sent.{Sent}
-use Rattle.writer.specs.World.{World, Called, Fit, capacity, spare, room, replies, isOk, andThen, nothing}
-use Rattle.writer.specs.Send.{flushSaid, writeSaid, flushReplySaid, sendFrom, sentBy}
-use Rattle.writer.specs.Writer.{flushBuf, flushedBy, stored, placed, cold, written, deviceWrite, write, deviceFlush, flush}
-use Rattle.writer.proofs.Sends.{send-done, send-accept, send-zero, send-failed}
-use Rattle.writer.proofs.Flushes.{Keeps, keeps, fit-after}
-use Rattle.writer.proofs.Cases.{then-ok, then-failed}
+use Rattle.flushing.specs.declared.Outcome.{Outcome}
+use Rattle.flushing.specs.declared.Outcome.the-variants.{Done, Zero, Failed}
+use Rattle.flushing.specs.declared.Sent.{Sent}
+use Rattle.flushing.specs.World.{World, Called, Fit, capacity, spare, room, replies, isOk, andThen, nothing}
+use Rattle.flushing.specs.Send.{flushSaid, writeSaid, flushReplySaid, sendFrom, sentBy}
+use Rattle.flushing.specs.Flush.{flushBuf, flushedBy}
+use Rattle.writer.specs.Writer.{stored, placed, cold, written, deviceWrite, write, deviceFlush, flush}
+use Rattle.flushing.proofs.Sends.{send-done, send-accept, send-zero, send-failed}
+use Rattle.flushing.proofs.Flushes.{Keeps, keeps, fit-after}
+use Rattle.flushing.proofs.Thens.{then-ok, then-failed}
 use Rattle.judge.specs.Table.{Direct, Synced, Stopped, WriteStep, FlushStep}
 
 -- ---- replies

@@ -10,13 +10,15 @@ use Rattle.card.specs.declared.Reply.the-variants.{Accept, Interrupted, Error}
 use Rattle.card.specs.Answers.{Said, ok, done}
 use Rattle.card.specs.Device.{exchange, moves}
 use Rattle.card.proofs.Replies.{exchange-most}
-use Rattle.writer.specs.declared.Outcome.{Outcome}
-use Rattle.writer.specs.declared.Outcome.the-variants.{Done, Zero, Failed}
-use Rattle.writer.specs.World.{World, Called, Fit, room, replies}
-use Rattle.writer.specs.Send.{flushSaid, writeSaid, flushReplySaid, sendFrom}
-use Rattle.writer.specs.Writer.{flushBuf, stored, deviceWrite, write, deviceFlush, flush}
-use Rattle.writer.proofs.Flushes.{Keeps, keeps}
-use Rattle.writer.proofs.Cases.{flush-cases, written-cases, placed-by}
+use Rattle.flushing.specs.declared.Outcome.{Outcome}
+use Rattle.flushing.specs.declared.Outcome.the-variants.{Done, Zero, Failed}
+use Rattle.flushing.specs.World.{World, Called, Fit, room, replies}
+use Rattle.flushing.specs.Send.{flushSaid, writeSaid, flushReplySaid, sendFrom}
+use Rattle.flushing.specs.Flush.{flushBuf}
+use Rattle.writer.specs.Writer.{stored, deviceWrite, write, deviceFlush, flush}
+use Rattle.flushing.proofs.Flushes.{Keeps, keeps}
+use Rattle.flushing.proofs.Cases.{flush-cases}
+use Rattle.writer.proofs.Cases.{written-cases, placed-by}
 use Rattle.judge.specs.Table.{Direct, Synced, Stopped, WriteStep, FlushStep}
 
 -- a flush that is stopped says so

@@ -12,12 +12,12 @@ use Rattle.laws.specs.Pick.{pick}
 use Rattle.card.specs.declared.Reply.{Reply}
 use Rattle.card.specs.declared.Reply.the-variants.{Accept, Interrupted, Error}
 use Rattle.card.specs.Device.{replyOf, atMost, exchange}
-use Rattle.writer.specs.declared.Outcome.the-variants.{Done, Zero}
-use Rattle.writer.specs.declared.Sent.{Sent}
-use Rattle.writer.specs.Send.{sendFrom, sentBy, onReply}
-use Rattle.writer.specs.World.{World, room}
-use Rattle.writer.specs.Ledger.{new, ledger}
-use Rattle.writer.proofs.Moves.{In, moved-in}
+use Rattle.flushing.specs.declared.Outcome.the-variants.{Done, Zero}
+use Rattle.flushing.specs.declared.Sent.{Sent}
+use Rattle.flushing.specs.Send.{sendFrom, sentBy, onReply}
+use Rattle.flushing.specs.World.{World, room, new}
+use Rattle.ledger.specs.Ledger.{ledger}
+use Rattle.ledger.proofs.Moves.{In, moved-in}
 use Rattle.trace.specs.Calls.{Told, wrote, flushed, written}
 use Rattle.judge.specs.Judge.{calledBy, Explains, Possible}
 use Rattle.judge.specs.Table.{piece}

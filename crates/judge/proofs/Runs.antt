@@ -14,12 +14,12 @@ use lib.Seq.{take-at, length-take-le, take-nil}
 use borrow.Author.Tests.{eq-eqb, ne-eqb}
 use Rattle.laws.specs.Pick.{pick}
 use Rattle.card.specs.Answers.{Said, ok, done, interrupted, zero-taken, error}
-use Rattle.writer.specs.World.{World, Called, Fit, begun, room, replies, isOk}
+use Rattle.flushing.specs.World.{World, Called, Fit, begun, room, replies, isOk, new}
 use Rattle.writer.specs.Writer.{write, flush}
-use Rattle.writer.specs.Line.{countOf}
-use Rattle.writer.specs.Ledger.{new, accepted, ledger}
-use Rattle.writer.proofs.Moves.{In, Moved, moved-in}
-use Rattle.writer.proofs.Ledgers.{begun-fit, from-begun, write-moved, flush-moved}
+use Rattle.lines.specs.Line.{countOf}
+use Rattle.ledger.specs.Ledger.{accepted, ledger}
+use Rattle.ledger.proofs.Moves.{In, Moved, moved-in}
+use Rattle.ledger.proofs.Ledgers.{begun-fit, from-begun, write-moved, flush-moved}
 use Rattle.trace.specs.declared.Claim.{Claim}
 use Rattle.trace.specs.declared.Claim.the-variants.{Ok, Done, Interrupted, Zero, Error}
 use Rattle.trace.specs.Claims.{claimed, codeMost}

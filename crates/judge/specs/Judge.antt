@@ -6,9 +6,8 @@ use mathlib.Core.Logic.{_↔_}
 use mathlib.Core.List.{List, [], _∷_}
 use lib.ListN.{length, take, replicate}
 use Rattle.card.specs.Answers.{Said}
-use Rattle.writer.specs.World.{World, Called, begun}
+use Rattle.flushing.specs.World.{World, Called, begun, new}
 use Rattle.writer.specs.Writer.{write, flush}
-use Rattle.writer.specs.Ledger.{new}
 use Rattle.trace.specs.Calls.{Told, wrote, flushed, written}
 use Rattle.trace.specs.Trace.{Parsed, fault, trace}
 use Rattle.judge.specs.declared.Verdict.{Verdict}

@@ -5,7 +5,7 @@ use mathlib.Core.Path.{_≡_}
 use mathlib.Core.List.{List, [], _∷_, _++_}
 use lib.ListN.{length, take}
 use Rattle.card.specs.Answers.{Said, ok, done, interrupted, zero-taken, error}
-use Rattle.writer.specs.Ledger.{accepted}
+use Rattle.ledger.specs.Ledger.{accepted}
 use Rattle.trace.specs.Calls.{Told, wrote, flushed}
 
 -- the answers of a device write of n bytes

@@ -19,17 +19,20 @@ use Rattle.card.specs.Answers.{Said, ok, done, refused}
 use Rattle.card.specs.Limits.{refusalOf, lengthRefusal}
 use Rattle.card.specs.Device.{exchange, moves, takes}
 use Rattle.card.proofs.Replies.{exchange-most, takes-fit, used-of-exchange}
-use Rattle.writer.specs.declared.Sent.{Sent}
-use Rattle.writer.specs.World.{World, Called, Fit, taken, drained, kept, capacity, room, replies, isOk, andThen, nothing, refusing, begun, worldOf, fresh}
-use Rattle.writer.specs.Send.{writeSaid, flushReplySaid, sendFrom}
-use Rattle.writer.specs.Writer.{flushBuf, flushedBy, stored, placed, deviceWrite, write, deviceFlush, flush, writeCall, flushCall}
-use Rattle.writer.specs.Line.{linesLength, endsLine, completed, tailKept, keepTail, countOf, sendLines, lineWrite, lineWriteCall}
-use Rattle.writer.specs.Ledger.{Call, made, accepted, slice, new, after, prefixes, ledger}
-use Rattle.writer.proofs.Sends.{within}
-use Rattle.writer.proofs.Cases.{then-ok, then-failed, then-cases, flush-ok-done, flush-cases, written-cases, placed-by}
-use Rattle.writer.proofs.Moves.{In, fit-in, Moved, moved-in, moved-then, unmoved, drained-moved, taken-moved, kept-moved}
-use Rattle.writer.proofs.Newlines.{lines-most}
-use Rattle.writer.proofs.Lines.{tail-most, lines-taken}
+use Rattle.flushing.specs.declared.Sent.{Sent}
+use Rattle.flushing.specs.World.{World, Called, Fit, taken, drained, kept, capacity, room, replies, isOk, andThen, nothing, refusing, begun, worldOf, fresh, new}
+use Rattle.flushing.specs.Send.{writeSaid, flushReplySaid, sendFrom}
+use Rattle.flushing.specs.Flush.{flushBuf, flushedBy}
+use Rattle.writer.specs.Writer.{stored, placed, deviceWrite, write, deviceFlush, flush, writeCall, flushCall}
+use Rattle.lines.specs.Line.{linesLength, endsLine, completed, tailKept, keepTail, countOf, sendLines, lineWrite, lineWriteCall}
+use Rattle.ledger.specs.Ledger.{Call, made, accepted, slice, after, prefixes, ledger}
+use Rattle.flushing.proofs.Sends.{within}
+use Rattle.flushing.proofs.Thens.{then-ok, then-failed, then-cases}
+use Rattle.flushing.proofs.Cases.{flush-ok-done, flush-cases}
+use Rattle.writer.proofs.Cases.{written-cases, placed-by}
+use Rattle.ledger.proofs.Moves.{In, fit-in, Moved, moved-in, moved-then, unmoved, drained-moved, taken-moved, kept-moved}
+use Rattle.lines.proofs.Newlines.{lines-most}
+use Rattle.lines.proofs.Lines.{tail-most, lines-taken}
 
 -- ---- the parts
 

@@ -11,8 +11,8 @@ use lib.Seq.{take-add, drop-drop}
 use Rattle.laws.specs.Put.{put}
 use Rattle.laws.proofs.Puts.{take-put, drop-put, length-put}
 use Rattle.card.specs.Answers.{Said, done}
-use Rattle.writer.specs.World.{World, Called, Fit, taken, drained, kept}
-use Rattle.writer.specs.Ledger.{ledger}
+use Rattle.flushing.specs.World.{World, Called, Fit, taken, drained, kept}
+use Rattle.ledger.specs.Ledger.{ledger}
 
 -- a world whose numbers are within their lists
 pub record In (script : List ℕ) (w : World) : Type 0 where

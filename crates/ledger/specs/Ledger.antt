@@ -5,9 +5,9 @@ use mathlib.Core.List.{List, [], _∷_, _++_}
 use lib.ListN.{take}
 use Rattle.laws.specs.Pick.{pick}
 use Rattle.card.specs.Answers.{Said}
-use Rattle.writer.specs.World.{World, Called, isOk, worldOf, fresh}
+use Rattle.flushing.specs.World.{World, Called, isOk}
 use Rattle.writer.specs.Writer.{writeCall, flushCall}
-use Rattle.writer.specs.Line.{lineWriteCall, countOf}
+use Rattle.lines.specs.Line.{lineWriteCall, countOf}
 
 -- a call of either writer; the line writer's flush is the plain one
 pub data Call : Type 0 where
@@ -33,10 +33,6 @@ slice (write s) = s
 slice flush = []
 slice (line-write s) = s
 slice line-flush = []
-
--- a new writer on storage and medium touched by nothing else
-abbrev pub new : List ℕ → List ℕ → World
-new storage medium = worldOf fresh storage medium
 
 -- the world after the calls
 unfoldable pub after : List ℕ → World → List Call → World

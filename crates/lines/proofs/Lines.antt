@@ -2,48 +2,45 @@
 -- Assumes nothing.
 use mathlib.Core.Path.{_≡_, refl, sym, ap, ap₂, _∙_, subst}
 use mathlib.Core.Bool.{Bool, true, false}
-use mathlib.Core.List.{List, [], _∷_}
-use Prim.Native.Nat.{ℕ, _+_, _-_, _≤_, _<_, min}
-use native.Mathlib.Decide.{decLe}
+use mathlib.Core.List.{List}
+use Prim.Native.Nat.{ℕ, _+_, _-_, _≤_, min}
 use native.Mathlib.Nat.{add-zero}
 use native.Mathlib.Omega.{arith}
 use lib.ListN.{length, take, drop, length-take, length-drop}
-use lib.Seq.{length-take-le}
 use lib.Dec.{leb, eqb}
-use borrow.Author.Tests.{le-leb, lt-leb, eq-eqb, ne-eqb, leb-true, leb-false}
+use borrow.Author.Tests.{eq-eqb, ne-eqb, leb-true, leb-false}
 use Rattle.laws.specs.Pick.{pick}
 use Rattle.laws.specs.Put.{put}
+use Rattle.laws.proofs.Puts.{length-put}
 use Rattle.laws.proofs.Parts.{rest}
 use Rattle.card.specs.declared.Reply.{Reply}
-use Rattle.card.specs.declared.Reply.the-variants.{Accept, Interrupted, Error}
+use Rattle.card.specs.declared.Reply.the-variants.{Accept}
 use Rattle.card.specs.declared.Exchange.{Exchange}
-use Rattle.card.specs.Answers.{Said, said, ok, done}
+use Rattle.card.specs.Answers.{said, ok}
 use Rattle.card.specs.Device.{exchange, moves}
+use Rattle.card.specs.Limits.{scriptMost, bytesMost, refusalOf, lengthRefusal}
 use Rattle.card.proofs.Replies.{exchange-most}
-use Rattle.writer.specs.declared.State.{State}
-use Rattle.writer.specs.declared.Answered.{Answered}
-use Rattle.writer.specs.declared.Outcome.{Outcome}
-use Rattle.writer.specs.declared.Outcome.the-variants.{Done, Zero, Failed}
-use Rattle.writer.specs.declared.Sent.{Sent}
-use Rattle.writer.specs.World.{World, Called, Told, Fit, worldOf, worldAfter, told, reported, taken, kept, isOk, andThen, nothing}
-use Rattle.writer.specs.Send.{wholeSaid, writeSaid, sendFrom}
-use Rattle.writer.specs.Writer.{flushBuf, deviceWrite, deviceWriteAll, takenBy, write, writeAll}
-use Rattle.writer.specs.Line.{linesLength, endsLine, completed, window, tailKept, keepTail, countOf, sendLines, lineWrite, linesAll, lineWriteAll}
-use Rattle.writer.proofs.Sends.{within}
-use Rattle.writer.proofs.Flushes.{fit-after}
-use Rattle.writer.proofs.Cases.{then-ok, then-failed, then-assoc}
-use Rattle.writer.proofs.Goes.{Goes, write-all-goes, device-all-goes}
-use Rattle.writer.proofs.Newlines.{window-most, lines-most}
-
--- ---- one thing after another, as the code goes on or stops
-
-pub then-done : (c : Called) (next : World → Called) (v : World) (a : Said) (t : Told) → c ≡ record { answer = a; world = v } → isOk a ≡ true → t ≡ reported (next v) → t ≡ reported (andThen c next)
-unfolding andThen
-then-done c next v a t e o q = rw e (rw o q)
-
-pub then-stopped : (c : Called) (next : World → Called) (state : State) (x y : List ℕ) (writes : ℕ) (a : Said) → c ≡ record { answer = a; world = worldAfter state x y writes } → isOk a ≡ false → record { answer = a; calls = writes; held = state .held; out = state .out; used = state .used; storage = x; medium = y } ≡ reported (andThen c next)
-unfolding andThen
-then-stopped c next state x y writes a e o = rw e (rw o (cc (add-zero writes)))
+use Rattle.card.proofs.Refusals.{length-within, length-unrefused}
+use Rattle.flushing.specs.declared.State.{State}
+use Rattle.flushing.specs.declared.Answered.{Answered}
+use Rattle.flushing.specs.declared.Outcome.{Outcome}
+use Rattle.flushing.specs.declared.Outcome.the-variants.{Done}
+use Rattle.flushing.specs.declared.Sent.{Sent}
+use Rattle.flushing.specs.World.{World, Called, Told, Sound, worldOf, worldAfter, told, reported, taken, isOk, andThen, nothing, refusing}
+use Rattle.flushing.specs.Send.{wholeSaid, writeSaid, sendFrom}
+use Rattle.flushing.specs.Flush.{flushBuf, flushBufCall}
+use Rattle.flushing.proofs.Sends.{within}
+use Rattle.flushing.proofs.Thens.{then-ok, then-assoc, then-done, told-called}
+use Rattle.flushing.proofs.Calls.{limits, unrefused-own, unrefused-sound, sound-fit, sound-on, flush-made, flush-ready, flush-sound}
+use Rattle.flushing.proofs.Laters.{Counting, flush-later, then-later, after-is, called-is}
+use Rattle.flushing.proofs.Counts.{Reports, Uses, few-calls, flush-buf-counts, then-counts, flush-buf-uses, then-uses}
+use Rattle.writer.specs.Writer.{deviceWrite, deviceWriteAll, takenBy, write, writeAll, writeAllCall}
+use Rattle.writer.proofs.Goes.{Goes, write-all-goes}
+use Rattle.writer.proofs.Laters.{write-all-later}
+use Rattle.writer.proofs.Counts.{write-all-counts, write-all-uses}
+use Rattle.writer.proofs.Calls.{device-all-room, device-all-few}
+use Rattle.lines.specs.Line.{linesLength, endsLine, completed, window, tailKept, keepTail, countOf, sendLines, lineWrite, linesAll, lineWriteAll}
+use Rattle.lines.proofs.Newlines.{window-most, lines-most}
 
 -- ---- how much is kept
 
@@ -106,57 +103,147 @@ module _ (script st me s : List ℕ) (state : State) (e writes : ℕ) (x : Excha
     unfolding sendLines andThen
     lines-stopped r q o m = rw device-told (rw (q, o) (cc (add-zero (writes + 1), add-zero (state .out))))
 
+-- ---- one step after another, each counted from none
+
+-- a step that is told from a sound world makes few device calls
+pub step-few : (script st me : List ℕ) (state : State) (call : World → Called) (b : Answered) (x y : List ℕ) → ((v : World) → Reports v (call v)) → ((v : World) → Uses script v (call v)) → told b x y ≡ reported (call (worldOf state st me)) → Sound script (worldOf state st me) → b .calls ≤ scriptMost + 1
+step-few script st me state call b x y counts uses e sound =
+    let u = limits script (worldOf state st me) sound in
+    let k = few-calls script st me state (call (worldOf state st me)) (b .calls) (counts (worldOf state st me)) (uses (worldOf state st me)) (u .used-fits) (ap (λ (t : Told). t .calls) e) in
+    omega (arith, k, u .script-most)
+
+-- after a flush that succeeded
+module _ (script st me : List ℕ) (state : State) (f : Answered) (x y : List ℕ) (e : told f x y ≡ reported (flushBufCall script (worldOf state st me))) (sound : Sound script (worldOf state st me)) (o : isOk (said (f .answer)) ≡ true) where
+  pub flush-few : f .calls ≤ scriptMost + 1
+  flush-few =
+      let r = flush-ready script st me state f x y e sound o in
+      omega (arith, r .0 .few, r .0 .used, limits script (worldOf state st me) sound .script-most)
+
+  -- a call, which no refusal meets
+  module _ (own : ℕ) (call : World → Called) (b : Answered) (x′ y′ : List ℕ) (eb : told b x′ y′ ≡ reported (refusing script (worldOf (f .state) x y) own call)) (z : own ≡ 0) where
+    made : told b x′ y′ ≡ reported (call (worldOf (f .state) x y))
+    made = called-is script (worldOf (f .state) x y) own call (told b x′ y′) eb z (flush-sound script st me state f x y e sound) refl refl
+
+    pub next-few : ((v : World) → Reports v (call v)) → ((v : World) → Uses script v (call v)) → b .calls ≤ scriptMost + 1
+    next-few counts uses = step-few script x y (f .state) call b x′ y′ counts uses made (flush-sound script st me state f x y e sound)
+
+    pub next-is : Counting call → record { answer = said (b .answer); calls = f .calls + b .calls; held = b .state .held; out = b .state .out; used = b .state .used; storage = x′; medium = y′ } ≡ reported (andThen (flushBuf script (worldOf state st me)) call)
+    next-is counting =
+        then-done (flushBuf script (worldOf state st me)) call (worldAfter (f .state) x y (f .calls)) (said (f .answer)) _ (flush-made script st me state f x y e sound) o
+        (after-is script x y (f .state) call b x′ y′ (f .calls) counting made)
+
+-- what the code's `counted` tells
+pub counted-told : (r b : Answered) (k : ℕ) (x y : List ℕ) (t : Told) → r ≡ record { answer = b .answer; calls = k + b .calls; state = b .state } → record { answer = said (b .answer); calls = k + b .calls; held = b .state .held; out = b .state .out; used = b .state .used; storage = x; medium = y } ≡ t → told r x y ≡ t
+counted-told r b k x y t e q = ap (λ (a : Answered). told a x y) e ∙ q
+
+-- the parts of a slice are not too long
+pub short : (s : List ℕ) → length s ≤ bytesMost → lengthRefusal (length s) ≡ 0
+short s h = length-within (length s) h
+
+pub short-take : (e : ℕ) (s : List ℕ) → length s ≤ bytesMost → lengthRefusal (length (take e s)) ≡ 0
+short-take e s h =
+    let l : length (take e s) ≡ min e (length s) = length-take e s in
+    length-within (length (take e s)) (omega arith)
+
+pub short-rest : (e : ℕ) (s : List ℕ) → length s ≤ bytesMost → length (take (length s - e) (drop e s)) ≤ bytesMost
+short-rest e s h =
+    let l : length (take (length s - e) (drop e s)) ≡ length s - e = ap length (rest e s) ∙ length-drop e s in
+    omega arith
+
 -- ---- `write_all` of the lines
 
 -- nothing held
-module _ (script st me l : List ℕ) (state : State) (f : Sent) (pf : f ≡ sendFrom (drop (state .used) script) (length l) (length me - state .out) 0 (state .used) 0) where
-  pub direct-room : state .out ≤ length me → state .out + f .sent ≤ length me
-  direct-room h = rw pf (omega (arith, within (drop (state .used) script) (length l) (length me - state .out) 0 (state .used) 0 .fits))
+module _ (script st me l : List ℕ) (state : State) (f : Sent) (pf : f ≡ sendFrom (drop (state .used) script) (length l) (length me - state .out) 0 (state .used) 0) (sound : Sound script (worldOf state st me)) where
+  pub direct-room : state .out + f .sent ≤ length me
+  direct-room = device-all-room (drop (state .used) script) l me (state .used) (state .out) f pf (limits script (worldOf state st me) sound .moved-fits)
 
-  pub direct-told : (y : List ℕ) (o : Outcome) → y ≡ put me (state .out) l (f .sent) → f .outcome ≡ o → deviceWriteAll script (worldOf state st me) l ≡ record { answer = wholeSaid o; world = worldAfter (record { held = state .held; out = state .out + f .sent; used = f .used }) st y (f .writes) }
-  unfolding deviceWriteAll
-  direct-told y o py q =
-      ap (λ (g : Sent). takenBy (worldOf state st me) l g) (sym pf)
-      ∙ ap₂ (λ (p : Outcome) (m : List ℕ). record { answer = wholeSaid p; world = worldAfter (record { held = state .held; out = state .out + f .sent; used = f .used }) st m (f .writes) }) q (sym py)
+  pub direct-few : f .writes ≤ scriptMost + 1
+  direct-few =
+      let u = limits script (worldOf state st me) sound in
+      omega (arith, device-all-few script l me (state .used) (state .out) 0 f pf (u .used-fits) (omega arith), u .script-most)
 
-pub direct-fit : (script l : List ℕ) (w v : World) (a : Said) → Fit script w → deviceWriteAll script w l ≡ record { answer = a; world = v } → isOk a ≡ true → Fit script v
-direct-fit script l w v a fit e o =
-    let g : Goes script w (record { answer = a; world = v }) = subst (λ (c : Called). Goes script w c) e (device-all-goes script w l fit) in
-    g .fit o
+  module _ (y : List ℕ) (py : y ≡ put me (state .out) l (f .sent)) where
+    pub direct-told : (o : Outcome) → f .outcome ≡ o → deviceWriteAll script (worldOf state st me) l ≡ record { answer = wholeSaid o; world = worldAfter (record { held = state .held; out = state .out + f .sent; used = f .used }) st y (f .writes) }
+    unfolding deviceWriteAll
+    direct-told o q =
+        ap (λ (g : Sent). takenBy (worldOf state st me) l g) (sym pf)
+        ∙ ap₂ (λ (p : Outcome) (m : List ℕ). record { answer = wholeSaid p; world = worldAfter (record { held = state .held; out = state .out + f .sent; used = f .used }) st m (f .writes) }) q (sym py)
 
--- a call that was told, as the definition has it
-told-called : (c : Called) (r : Answered) (x y : List ℕ) → told r x y ≡ reported c → c .world .flushes ≡ 0 → c ≡ record { answer = said (r .answer); world = worldAfter (r .state) x y (r .calls) }
-told-called c r x y e z =
-    let calls : c .world .writes ≡ r .calls = counted (c .world .writes) (c .world .flushes) (r .calls) (ap (λ (t : Told). t .calls) e) z in
-    λ i.
-    record {
-      answer = sym (ap (λ (t : Told). t .answer) e) i;
-      world =
-          record {
-            storage = sym (ap (λ (t : Told). t .storage) e) i;
-            medium = sym (ap (λ (t : Told). t .medium) e) i;
-            held = sym (ap (λ (t : Told). t .held) e) i;
-            out = sym (ap (λ (t : Told). t .out) e) i;
-            used = sym (ap (λ (t : Told). t .used) e) i;
-            writes = calls i;
-            flushes = z i;
-          };
-    }
-  where
-    counted : (a b k : ℕ) → k ≡ a + b → b ≡ 0 → a ≡ k
-    counted a b k p q = omega arith
+    pub direct-sound : Sound script (worldOf (record { held = state .held; out = state .out + f .sent; used = f .used }) st y)
+    direct-sound =
+        let u = limits script (worldOf state st me) sound in
+        let k = within (drop (state .used) script) (length l) (length me - state .out) 0 (state .used) 0 in
+        let left : length (drop (state .used) script) ≡ length script - state .used = length-drop (state .used) script in
+        let most : f .sent ≤ length l = rw pf (omega (arith, k .most)) in
+        let end : f .used ≤ length script = rw pf (omega (arith, k .end, u .used-fits)) in
+        let long : length y ≡ length me = ap length py ∙ length-put me (state .out) l (f .sent) direct-room most in
+        sound-on script (worldOf state st me) (worldOf (record { held = state .held; out = state .out + f .sent; used = f .used }) st y) sound refl long (u .filled-fits) direct-room end
+
+    -- the tail by the plain `write_all`, as the part `&slice[e..]`
+    module _ (t t′ : List ℕ) (part : t′ ≡ t) (short-t : length t′ ≤ bytesMost) (b : Answered) (x′ y′ : List ℕ) (eb : told b x′ y′ ≡ reported (writeAllCall script (worldOf (record { held = state .held; out = state .out + f .sent; used = f .used }) st y) t′)) where
+      made-direct : told b x′ y′ ≡ reported (writeAll script (worldOf (record { held = state .held; out = state .out + f .sent; used = f .used }) st y) t)
+      unfolding writeAllCall
+      made-direct =
+          called-is script (worldOf (record { held = state .held; out = state .out + f .sent; used = f .used }) st y) (lengthRefusal (length t′)) (λ v. writeAll script v t′) (told b x′ y′) eb (short t′ short-t) direct-sound refl refl
+          ∙ ap (λ (m : List ℕ). reported (writeAll script (worldOf (record { held = state .held; out = state .out + f .sent; used = f .used }) st y) m)) part
+
+      pub direct-next-few : b .calls ≤ scriptMost + 1
+      direct-next-few = step-few script st y (record { held = state .held; out = state .out + f .sent; used = f .used }) (λ v. writeAll script v t) b x′ y′ (λ v. write-all-counts script v t) (λ v. write-all-uses script v t) made-direct direct-sound
+
+      pub direct-next : f .outcome ≡ Done → record { answer = said (b .answer); calls = f .writes + b .calls; held = b .state .held; out = b .state .out; used = b .state .used; storage = x′; medium = y′ } ≡ reported (andThen (deviceWriteAll script (worldOf state st me) l) (λ v. writeAll script v t))
+      direct-next q =
+          then-done (deviceWriteAll script (worldOf state st me) l) (λ v. writeAll script v t) (worldAfter (record { held = state .held; out = state .out + f .sent; used = f .used }) st y (f .writes)) (wholeSaid Done) _ (direct-told Done q) refl
+          (after-is script st y (record { held = state .held; out = state .out + f .sent; used = f .used }) (λ v. writeAll script v t) b x′ y′ (f .writes) (write-all-later script t) made-direct)
 
 -- something held
-module _ (script st me l : List ℕ) (state : State) (fit : Fit script (worldOf state st me)) (r : Answered) (x y : List ℕ) (e : told r x y ≡ reported (writeAll script (worldOf state st me) l)) where
-  pub through-told : writeAll script (worldOf state st me) l ≡ record { answer = said (r .answer); world = worldAfter (r .state) x y (r .calls) }
-  through-told = told-called (writeAll script (worldOf state st me) l) r x y e (write-all-goes script (worldOf state st me) l fit .flushes)
+module _ (script st me l : List ℕ) (state : State) (a : Answered) (x y : List ℕ) (e : told a x y ≡ reported (writeAllCall script (worldOf state st me) l)) (sound : Sound script (worldOf state st me)) (short-l : lengthRefusal (length l) ≡ 0) where
+  made-through : told a x y ≡ reported (writeAll script (worldOf state st me) l)
+  unfolding writeAllCall
+  made-through = called-is script (worldOf state st me) (lengthRefusal (length l)) (λ v. writeAll script v l) (told a x y) e short-l sound refl refl
 
-  pub through-fit : isOk (said (r .answer)) ≡ true → Fit script (worldAfter (r .state) x y (r .calls))
-  through-fit o =
-      let g : Goes script (worldOf state st me) (record { answer = said (r .answer); world = worldAfter (r .state) x y (r .calls) }) = subst (λ (c : Called). Goes script (worldOf state st me) c) through-told (write-all-goes script (worldOf state st me) l fit) in
-      g .fit o
+  pub through-few : a .calls ≤ scriptMost + 1
+  through-few = step-few script st me state (λ v. writeAll script v l) a x y (λ v. write-all-counts script v l) (λ v. write-all-uses script v l) made-through sound
 
--- ---- the roads of the two calls
+  goes : Goes script (worldOf state st me) (writeAll script (worldOf state st me) l)
+  goes = write-all-goes script (worldOf state st me) l (sound-fit script (worldOf state st me) sound (omega arith))
+
+  pub through-told : writeAll script (worldOf state st me) l ≡ record { answer = said (a .answer); world = worldAfter (a .state) x y (a .calls) }
+  through-told = told-called (writeAll script (worldOf state st me) l) a x y made-through (goes .flushes)
+
+  module _ (o : isOk (said (a .answer)) ≡ true) where
+    pub through-sound : Sound script (worldOf (a .state) x y)
+    through-sound =
+        let g : Goes script (worldOf state st me) (record { answer = said (a .answer); world = worldAfter (a .state) x y (a .calls) }) = subst (λ (c : Called). Goes script (worldOf state st me) c) through-told goes in
+        let f = g .fit o in
+        sound-on script (worldOf state st me) (worldOf (a .state) x y) sound (g .storage-long) (g .medium-long) (omega (arith, f .held, g .storage-long)) (omega (arith, f .out, g .medium-long)) (f .used)
+
+    -- the flush, and the tail by the plain `write_all`, as the part `&slice[e..]`
+    module _ (t t′ : List ℕ) (part : t′ ≡ t) (b : Answered) (x′ y′ : List ℕ) (eb : told b x′ y′ ≡ reported (andThen (flushBuf script (worldOf (a .state) x y)) (λ v. writeAll script v t′))) where
+      made-next : told b x′ y′ ≡ reported (andThen (flushBuf script (worldOf (a .state) x y)) (λ v. writeAll script v t))
+      made-next = eb ∙ ap (λ (m : List ℕ). reported (andThen (flushBuf script (worldOf (a .state) x y)) (λ v. writeAll script v m))) part
+
+      pub through-next-few : b .calls ≤ scriptMost + 1
+      through-next-few =
+          step-few script x y (a .state) (λ v. andThen (flushBuf script v) (λ u. writeAll script u t)) b x′ y′
+          (λ v. then-counts v _ _ (flush-buf-counts script v) (λ u. write-all-counts script u t))
+          (λ v. then-uses script v _ _ (flush-buf-uses script v) (λ u. write-all-uses script u t))
+          made-next through-sound
+
+      pub through-next : record { answer = said (b .answer); calls = a .calls + b .calls; held = b .state .held; out = b .state .out; used = b .state .used; storage = x′; medium = y′ } ≡ reported (andThen (writeAll script (worldOf state st me) l) (λ v. andThen (flushBuf script v) (λ u. writeAll script u t)))
+      through-next =
+          then-done (writeAll script (worldOf state st me) l) (λ v. andThen (flushBuf script v) (λ u. writeAll script u t)) (worldAfter (a .state) x y (a .calls)) (said (a .answer)) _ through-told o
+          (after-is script x y (a .state) (λ v. andThen (flushBuf script v) (λ u. writeAll script u t)) b x′ y′ (a .calls) (then-later (λ v. flushBuf script v) (λ u. writeAll script u t) (flush-later script) (write-all-later script t)) made-next)
+
+-- ---- the roads of the two calls, where no refusal meets them
+
+module _ (script st me : List ℕ) (state : State) where
+  pub slice-short : (s : List ℕ) (number own : ℕ) → number ≡ refusalOf (length st) (length script) (length me) 0 (state .held) (state .out) (state .used) own → own ≡ lengthRefusal (length s) → number ≡ 0 → length s ≤ bytesMost
+  slice-short s number own pn po h = length-unrefused (length s) (sym po ∙ unrefused-own script st me state number own pn h)
+
+  -- a plain call does not refuse what was not refused
+  pub plain-told : (call : World → Called) (t : Told) (k number own : ℕ) → t ≡ reported (refusing script (worldOf state st me) k call) → number ≡ refusalOf (length st) (length script) (length me) 0 (state .held) (state .out) (state .used) own → own ≡ k → number ≡ 0 → t ≡ reported (call (worldOf state st me))
+  plain-told call t k number own e pn po h =
+      called-is script (worldOf state st me) k call t e (sym po ∙ unrefused-own script st me state number own pn h) (unrefused-sound script st me state number own pn h) refl refl
 
 module _ (script : List ℕ) (w : World) (s : List ℕ) (e : ℕ) (pe : e ≡ linesLength s) where
   pub line-lines : (t : Told) → (e ≡ 0 → ⊥) → t ≡ reported (andThen (flushBuf script w) (λ v. sendLines script v s e)) → t ≡ reported (lineWrite script w s)
@@ -193,10 +280,3 @@ module _ (script : List ℕ) (w : World) (s : List ℕ) (e : ℕ) (pe : e ≡ li
 
 pub lines-within : (e : ℕ) (s : List ℕ) → e ≡ linesLength s → e ≤ length s
 lines-within e s q = rw q (lines-most s)
-
--- the tail, as the part `&slice[e..]`
-pub rest-told : (script : List ℕ) (v : World) (s : List ℕ) (e : ℕ) (t : Told) → t ≡ reported (writeAll script v (take (length s - e) (drop e s))) → t ≡ reported (writeAll script v (drop e s))
-rest-told script v s e t q = q ∙ ap (λ (l : List ℕ). reported (writeAll script v l)) (rest e s)
-
-pub flush-rest-told : (script : List ℕ) (v : World) (s : List ℕ) (e : ℕ) (t : Told) → t ≡ reported (andThen (flushBuf script v) (λ u. writeAll script u (take (length s - e) (drop e s)))) → t ≡ reported (andThen (flushBuf script v) (λ u. writeAll script u (drop e s)))
-flush-rest-told script v s e t q = q ∙ ap (λ (l : List ℕ). reported (andThen (flushBuf script v) (λ u. writeAll script u l))) (rest e s)

@@ -11,7 +11,7 @@ use lib.Dec.{leb, ltb, eqb}
 use lib.Seq.{take-suc, take-all, length-take-le}
 use borrow.Author.Tests.{lt-ltb, le-ltb, eq-eqb, ne-eqb, ltb-true, ltb-false, lt-leb}
 use Rattle.laws.specs.Pick.{pick}
-use Rattle.writer.specs.Line.{linesLength, newline, window, tailKept}
+use Rattle.lines.specs.Line.{linesLength, newline, window, tailKept}
 
 -- one byte more at the end
 pub lines-more : (xs : List ℕ) (b : ℕ) → linesLength (xs ++ (b ∷ [])) ≡ pick (eqb b newline) (length xs + 1) (linesLength xs)

@@ -8,8 +8,9 @@ use lib.Dec.{leb, ltb, eqb}
 use Rattle.laws.specs.Pick.{pick}
 use Rattle.card.specs.Answers.{Said, ok}
 use Rattle.card.specs.Limits.{lengthRefusal}
-use Rattle.writer.specs.World.{World, Called, capacity, kept, andThen, nothing, refusing}
-use Rattle.writer.specs.Writer.{flushBuf, deviceWrite, deviceWriteAll, write, writeAll}
+use Rattle.flushing.specs.World.{World, Called, capacity, kept, andThen, nothing, refusing}
+use Rattle.flushing.specs.Flush.{flushBuf}
+use Rattle.writer.specs.Writer.{deviceWrite, deviceWriteAll, write, writeAll}
 
 abbrev pub newline : ℕ
 newline = 10

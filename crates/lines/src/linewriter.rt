@@ -1,22 +1,24 @@
 // Module 4, the line writer: std's linewritershim.rs, as functions over the writer's state.
-use crate::Answered;
-use crate::Outcome;
-use crate::State;
-use crate::bufwriter;
 use crate::newline;
-use crate::send;
 use card::Answer;
 use card::Reply;
 use card::bytes;
 use card::device;
 use card::limits;
+use flushing::Answered;
+use flushing::Outcome;
+use flushing::State;
+use flushing::flush;
+use flushing::send;
+use writer::bufwriter;
 ghost use mathlib.Core.Path.{_≡_};
-ghost use Prim.Native.Nat.{_+_, _-_, _≤_, _<_, min};
+ghost use Prim.Native.Nat.{_+_, _≤_};
 ghost use lib.ListN.{length, take, drop};
-ghost use Rattle.card.specs.Answers.{said};
-ghost use Rattle.writer.specs.World.{Fit, worldOf, worldAfter, told, reported, isOk, andThen};
-ghost use Rattle.writer.specs.Writer.{write, writeAll, deviceWriteAll, flushBuf, flushCall};
-ghost use Rattle.writer.specs.Line.{endsLine, window, tailKept, sendLines, lineWriteCall, lineWriteAllCall};
+ghost use Rattle.card.specs.Limits.{scriptMost, bytesMost};
+ghost use Rattle.flushing.specs.World.{Fit, Sound, worldOf, worldAfter, told, reported, andThen};
+ghost use Rattle.flushing.specs.Flush.{flushBuf};
+ghost use Rattle.writer.specs.Writer.{write, writeAll, deviceWriteAll, flushCall};
+ghost use Rattle.lines.specs.Line.{endsLine, window, tailKept, sendLines, lineWriteCall, lineWriteAllCall};
 
 // Whether the last held byte is a newline.
 fn ends_line(state: State, storage: &[u8]) -> bool
@@ -59,21 +61,6 @@ fn tail_kept(slice: &[u8], capacity: usize, e: usize, f: usize) -> usize
         return e - f;
     }
     window_kept(&slice[f..f + capacity])
-}
-
-// Whether an answer is an ok.
-fn succeeded(answer: Answer) -> bool
-    ensures { λ r. ⌜ r ≡ isOk (said answer) ⌝ }
-{
-    match answer {
-        Answer::Ok(_) => true,
-        Answer::Done => true,
-        Answer::Interrupted => false,
-        Answer::Zero => false,
-        Answer::Whole => false,
-        Answer::Error(_) => false,
-        Answer::Refused(_) => false,
-    }
 }
 
 // The lines by one device write, and as much of what follows as is kept.
@@ -128,6 +115,20 @@ fn send_lines(
     }
 }
 
+// What a call tells when device calls were made before it.
+fn counted(calls: usize, a: Answered) -> Answered
+    requires { ⌜ (calls ≤ scriptMost + 1) × (a .calls ≤ scriptMost + 1) ⌝ }
+    ensures { λ r. ⌜ r ≡ record { answer = a .answer; calls = calls + a .calls; state = a .state } ⌝ }
+{
+    let answer = a.answer;
+    let state = a.state;
+    Answered {
+        answer,
+        calls: calls + a.calls,
+        state,
+    }
+}
+
 // ---- a flush of the buffer, and then the rest
 
 fn flush_then_lines(
@@ -138,25 +139,16 @@ fn flush_then_lines(
     slice: &[u8],
     e: usize,
 ) -> Answered
-    requires { ⌜ Fit (now script) (worldOf state (now storage) (now medium)) × (e ≤ length (now slice)) ⌝ }
+    requires { ⌜ Sound (now script) (worldOf state (now storage) (now medium)) × (e ≤ length (now slice)) ⌝ }
     ensures { λ r. ⌜ told r (now (storage .exit)) (now (medium .exit)) ≡ reported (andThen (flushBuf (now (script .entry)) (worldOf state (now (storage .entry)) (now (medium .entry)))) (λ v. sendLines (now (script .entry)) v (now (slice .entry)) e)) ⌝ }
 {
-    let f = bufwriter::flush_fit(state, storage, script, medium, 0);
-    let outcome = f.outcome;
+    let f = flush::flush_buf(state, storage, script, medium);
+    let answer = f.answer;
     let flushed = f.state;
-    match outcome {
-        Outcome::Done => send_lines(flushed, storage, script, medium, slice, e, f.writes),
-        Outcome::Zero => Answered {
-            answer: Answer::Zero,
-            calls: f.writes,
-            state: flushed,
-        },
-        Outcome::Failed(code) => Answered {
-            answer: Answer::Error(code),
-            calls: f.writes,
-            state: flushed,
-        },
+    if flush::succeeded(answer) {
+        return send_lines(flushed, storage, script, medium, slice, e, f.calls);
     }
+    f
 }
 
 fn flush_then_write(
@@ -166,25 +158,17 @@ fn flush_then_write(
     medium: &mut [u8],
     slice: &[u8],
 ) -> Answered
-    requires { ⌜ Fit (now script) (worldOf state (now storage) (now medium)) ⌝ }
+    requires { ⌜ Sound (now script) (worldOf state (now storage) (now medium)) × (length (now slice) ≤ bytesMost) ⌝ }
     ensures { λ r. ⌜ told r (now (storage .exit)) (now (medium .exit)) ≡ reported (andThen (flushBuf (now (script .entry)) (worldOf state (now (storage .entry)) (now (medium .entry)))) (λ v. write (now (script .entry)) v (now (slice .entry)))) ⌝ }
 {
-    let f = bufwriter::flush_fit(state, storage, script, medium, 0);
-    let outcome = f.outcome;
+    let f = flush::flush_buf(state, storage, script, medium);
+    let answer = f.answer;
     let flushed = f.state;
-    match outcome {
-        Outcome::Done => bufwriter::write_fit(flushed, storage, script, medium, slice, f.writes),
-        Outcome::Zero => Answered {
-            answer: Answer::Zero,
-            calls: f.writes,
-            state: flushed,
-        },
-        Outcome::Failed(code) => Answered {
-            answer: Answer::Error(code),
-            calls: f.writes,
-            state: flushed,
-        },
+    if flush::succeeded(answer) {
+        let a = bufwriter::write(flushed, storage, script, medium, slice);
+        return counted(f.calls, a);
     }
+    f
 }
 
 fn flush_then_write_all(
@@ -193,34 +177,18 @@ fn flush_then_write_all(
     script: &[u32],
     medium: &mut [u8],
     slice: &[u8],
-    writes: usize,
 ) -> Answered
-    requires { ⌜ Fit (now script) (worldAfter state (now storage) (now medium) writes) ⌝ }
-    ensures { λ r. ⌜ told r (now (storage .exit)) (now (medium .exit)) ≡ reported (andThen (flushBuf (now (script .entry)) (worldAfter state (now (storage .entry)) (now (medium .entry)) writes)) (λ v. writeAll (now (script .entry)) v (now (slice .entry)))) ⌝ }
+    requires { ⌜ Sound (now script) (worldOf state (now storage) (now medium)) × (length (now slice) ≤ bytesMost) ⌝ }
+    ensures { λ r. ⌜ told r (now (storage .exit)) (now (medium .exit)) ≡ reported (andThen (flushBuf (now (script .entry)) (worldOf state (now (storage .entry)) (now (medium .entry)))) (λ v. writeAll (now (script .entry)) v (now (slice .entry)))) ⌝ }
 {
-    let f = bufwriter::flush_fit(state, storage, script, medium, writes);
-    let outcome = f.outcome;
+    let f = flush::flush_buf(state, storage, script, medium);
+    let answer = f.answer;
     let flushed = f.state;
-    match outcome {
-        Outcome::Done => bufwriter::write_all_fit(
-            flushed,
-            storage,
-            script,
-            medium,
-            slice,
-            f.writes,
-        ),
-        Outcome::Zero => Answered {
-            answer: Answer::Zero,
-            calls: f.writes,
-            state: flushed,
-        },
-        Outcome::Failed(code) => Answered {
-            answer: Answer::Error(code),
-            calls: f.writes,
-            state: flushed,
-        },
+    if flush::succeeded(answer) {
+        let a = bufwriter::write_all(flushed, storage, script, medium, slice);
+        return counted(f.calls, a);
     }
+    f
 }
 
 // ---- `write_all` with a newline
@@ -234,11 +202,11 @@ fn lines_direct(
     slice: &[u8],
     e: usize,
 ) -> Answered
-    requires { ⌜ Fit (now script) (worldOf state (now storage) (now medium)) × (e ≤ length (now slice)) ⌝ }
+    requires { ⌜ Sound (now script) (worldOf state (now storage) (now medium)) × ((length (now slice) ≤ bytesMost) × (e ≤ length (now slice))) ⌝ }
     ensures { λ r. ⌜ told r (now (storage .exit)) (now (medium .exit)) ≡ reported (andThen (deviceWriteAll (now (script .entry)) (worldOf state (now (storage .entry)) (now (medium .entry))) (take e (now (slice .entry)))) (λ v. writeAll (now (script .entry)) v (drop e (now (slice .entry))))) ⌝ }
 {
     let out = state.out;
-    let f = send::send_all(&slice[..e], script, state.used, medium, out, 0);
+    let f = send::send_all(&slice[..e], script, state.used, medium, out);
     let outcome = f.outcome;
     let after = State {
         held: state.held,
@@ -246,14 +214,10 @@ fn lines_direct(
         used: f.used,
     };
     match outcome {
-        Outcome::Done => bufwriter::write_all_fit(
-            after,
-            storage,
-            script,
-            medium,
-            &slice[e..],
-            f.writes,
-        ),
+        Outcome::Done => {
+            let a = bufwriter::write_all(after, storage, script, medium, &slice[e..]);
+            counted(f.writes, a)
+        }
         Outcome::Zero => Answered {
             answer: Answer::Whole,
             calls: f.writes,
@@ -276,14 +240,15 @@ fn lines_through(
     slice: &[u8],
     e: usize,
 ) -> Answered
-    requires { ⌜ Fit (now script) (worldOf state (now storage) (now medium)) × (e ≤ length (now slice)) ⌝ }
+    requires { ⌜ Sound (now script) (worldOf state (now storage) (now medium)) × ((length (now slice) ≤ bytesMost) × (e ≤ length (now slice))) ⌝ }
     ensures { λ r. ⌜ told r (now (storage .exit)) (now (medium .exit)) ≡ reported (andThen (writeAll (now (script .entry)) (worldOf state (now (storage .entry)) (now (medium .entry))) (take e (now (slice .entry)))) (λ v. andThen (flushBuf (now (script .entry)) v) (λ u. writeAll (now (script .entry)) u (drop e (now (slice .entry)))))) ⌝ }
 {
-    let a = bufwriter::write_all_fit(state, storage, script, medium, &slice[..e], 0);
+    let a = bufwriter::write_all(state, storage, script, medium, &slice[..e]);
     let answer = a.answer;
     let after = a.state;
-    if succeeded(answer) {
-        return flush_then_write_all(after, storage, script, medium, &slice[e..], a.calls);
+    if flush::succeeded(answer) {
+        let b = flush_then_write_all(after, storage, script, medium, &slice[e..]);
+        return counted(a.calls, b);
     }
     a
 }
@@ -324,7 +289,7 @@ pub fn write(
     if ends_line(state, storage) {
         return flush_then_write(state, storage, script, medium, slice);
     }
-    bufwriter::write_fit(state, storage, script, medium, slice, 0)
+    bufwriter::write(state, storage, script, medium, slice)
 }
 
 pub fn write_all(
@@ -362,9 +327,9 @@ pub fn write_all(
         return lines_through(state, storage, script, medium, slice, e);
     }
     if ends_line(state, storage) {
-        return flush_then_write_all(state, storage, script, medium, slice, 0);
+        return flush_then_write_all(state, storage, script, medium, slice);
     }
-    bufwriter::write_all_fit(state, storage, script, medium, slice, 0)
+    bufwriter::write_all(state, storage, script, medium, slice)
 }
 
 // The line writer's flush is the plain one.

@@ -1,6 +1,6 @@
 // The search for the last newline.
 ghost use mathlib.Core.Path.{_≡_};
-ghost use Rattle.writer.specs.Line.{linesLength};
+ghost use Rattle.lines.specs.Line.{linesLength};
 
 // The length of everything up to and including the last newline, 0 where there is none.
 pub fn lines_length(s: &[u8]) -> usize

@@ -10,10 +10,10 @@ use Rattle.laws.specs.Put.{put}
 use Rattle.card.specs.Answers.{ok, error}
 use Rattle.card.specs.Device.{replyOf, next, takes, atMost, exchange}
 use Rattle.card.specs.Limits.{refusalOf, lengthRefusal}
-use Rattle.writer.specs.World.{andThen, refusing}
-use Rattle.writer.specs.Send.{sendFrom}
+use Rattle.flushing.specs.World.{andThen, refusing}
+use Rattle.flushing.specs.Send.{sendFrom}
 use Rattle.writer.specs.Writer as Writer
-use Rattle.writer.specs.Line.{linesLength, endsLine, completed, window, tailKept, keepTail, sendLines, lineWrite, lineWriteCall}
+use Rattle.lines.specs.Line.{linesLength, endsLine, completed, window, tailKept, keepTail, sendLines, lineWrite, lineWriteCall}
 use Rattle.reader.specs.Buffer as Buffer
 use Rattle.reader.specs.Reader as Reader
 use Rattle.numbers.specs.Number.{ended, groupsFrom, numberOf, number, within, numberMost}

@@ -3,8 +3,8 @@
 use Prim.Native.Nat.{ℕ}
 use mathlib.Core.Path.{_≡_}
 use mathlib.Core.List.{List, [], _∷_}
-use Rattle.writer.specs.World as Writer
-use Rattle.writer.specs.World.{reported}
+use Rattle.flushing.specs.World as Writer
+use Rattle.flushing.specs.World.{reported}
 use Rattle.reader.specs.World as Reader
 use Rattle.trace.specs.declared.Header.{Header}
 use Rattle.trace.specs.Calls.{Told}

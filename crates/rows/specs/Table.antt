@@ -3,10 +3,10 @@
 use Prim.Native.Nat.{ℕ}
 use mathlib.Core.List.{List, [], _∷_}
 use Rattle.card.specs.Answers.{ok, done, zero-taken, error}
-use Rattle.writer.specs.World as Writer
-use Rattle.writer.specs.World.{worldOf}
+use Rattle.flushing.specs.World as Writer
+use Rattle.flushing.specs.World.{worldOf}
 use Rattle.writer.specs.Writer.{writeCall, writeAllCall, flushCall}
-use Rattle.writer.specs.Line.{newline, lineWriteCall}
+use Rattle.lines.specs.Line.{newline, lineWriteCall}
 use Rattle.reader.specs.World as Reader
 use Rattle.reader.specs.Buffer.{shown}
 use Rattle.reader.specs.Reader.{read, peek}

@@ -1,9 +1,9 @@
 // Rows 1 to 9: the buffered writer and the line writer. Capacity 4 unless said.
 use crate::print;
-use writer::Answered;
-use writer::State;
+use flushing::Answered;
+use flushing::State;
 use writer::bufwriter;
-use writer::linewriter;
+use lines::linewriter;
 
 // A line: answer, device calls, the bytes held, the bytes out and the whole storage.
 fn show(row: usize, name: &[u8], a: Answered, storage: &[u8], medium: &[u8]) {

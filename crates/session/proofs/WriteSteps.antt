@@ -9,12 +9,11 @@ use lib.Dec.{eqb}
 use borrow.Author.Tests.{eq-eqb, ne-eqb}
 use Rattle.laws.specs.Pick.{pick}
 use Rattle.card.specs.Answers.{said}
-use Rattle.writer.specs.declared.State.{State}
-use Rattle.writer.specs.declared.Answered.{Answered}
-use Rattle.writer.specs.World.{World, Told, worldOf, fresh, told, reported}
+use Rattle.flushing.specs.declared.State.{State}
+use Rattle.flushing.specs.declared.Answered.{Answered}
+use Rattle.flushing.specs.World.{World, Told, worldOf, fresh, told, reported, new}
 use Rattle.writer.specs.Writer.{writeCall, writeAllCall}
-use Rattle.writer.specs.Line.{lineWriteCall, lineWriteAllCall}
-use Rattle.writer.specs.Ledger.{new}
+use Rattle.lines.specs.Line.{lineWriteCall, lineWriteAllCall}
 use Rattle.form.specs.Calls.{Asked}
 use Rattle.text.specs.declared.Name.{Name}
 use Rattle.text.specs.Printed.{Printed, printed}

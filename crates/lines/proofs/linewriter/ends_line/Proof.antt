@@ -1,9 +1,9 @@
--- `writer::linewriter::ends_line` meets its contract. Assumes nothing.
+-- `lines::linewriter::ends_line` meets its contract. Assumes nothing.
 use borrow.Author.Tests.{eq-eqb, ne-eqb}
-use Rattle.writer.specs.Line.{endsLine}
+use Rattle.lines.specs.Line.{endsLine}
 use borrow.Author.Needs.{needs}
-use Rattle.writer.proofs.linewriter.ends_line.Statement.{statement}
-use Rattle.writer.proofs.linewriter.ends_line.Tie as tie
+use Rattle.lines.proofs.linewriter.ends_line.Statement.{statement}
+use Rattle.lines.proofs.linewriter.ends_line.Tie as tie
 
 returns : tie.Need-returns
 unfolding endsLine

@@ -1,28 +1,29 @@
--- `writer::linewriter::flush_then_write` meets its contract. Assumes nothing.
-use mathlib.Core.Path.{refl}
-use Rattle.writer.proofs.Flushes.{fit-after}
-use Rattle.writer.proofs.Calls.{flush-told}
-use Rattle.writer.proofs.Lines.{then-done, then-stopped}
+-- `lines::linewriter::flush_then_write` meets its contract. Assumes nothing.
+use mathlib.Core.Path.{sym, _∙_}
+use Rattle.flushing.proofs.Thens.{then-stopped}
+use Rattle.flushing.proofs.Calls.{flush-made}
+use Rattle.writer.specs.Writer.{writeCall}
+use Rattle.writer.proofs.Laters.{write-later}
+use Rattle.writer.proofs.Counts.{write-counts, write-uses}
+use Rattle.lines.proofs.Lines.{flush-few, next-few, next-is, counted-told, short}
 use borrow.Author.Needs.{needs}
-use Rattle.writer.proofs.linewriter.flush_then_write.Statement.{statement}
-use Rattle.writer.proofs.linewriter.flush_then_write.Tie as tie
+use Rattle.lines.proofs.linewriter.flush_then_write.Statement.{statement}
+use Rattle.lines.proofs.linewriter.flush_then_write.Tie as tie
 
-flush-fit-requires : tie.Need-flush-fit-requires
-flush-fit-requires c κs = search needs
+flush-buf-requires : tie.Need-flush-buf-requires
+flush-buf-requires c κs = search needs
 
-enum-told : tie.Need-enum-told
-enum-told c = search needs
+succeeded-requires : tie.Need-succeeded-requires
+succeeded-requires c κs = search needs
 
-write-fit-requires : tie.Need-write-fit-requires
-write-fit-requires c κs =
-    let f = fit-after _ _ _ (c .before .before .before .before .before .before .before .before .before .before .before .before .before .before .before .before .pre) (flush-told _ _ _ _ _ _ (c .before .before .before .before .before .before .before .before .before .flush-fit .ensures) (c .before .before .enum-told .given .1)) in
-    f .0
+write-requires : tie.Need-write-requires
+write-requires c κs = search needs
 
-enum-told-2 : tie.Need-enum-told-2
-enum-told-2 c = search needs
-
-enum-known-outcome : tie.Need-enum-known-outcome
-enum-known-outcome c = search needs
+counted-requires : tie.Need-counted-requires
+unfolding writeCall
+counted-requires c κs =
+    let start = c .before .before .before .before .before .before .before .before .before .before .before .before .before .before .before .before .before .before .before .before .before in
+    (flush-few _ _ _ (c .before .before .before .before .before .before .before .before .before .before .before .before .before .before .before .before .before .before .before .before .before .args .state) (c .before .before .before .before .before .before .before .before .before .before .before .before .before .before .flush-buf .result) _ _ (c .before .before .before .before .before .before .before .before .before .before .before .before .before .before .flush-buf .ensures) (c .before .before .before .before .before .before .before .before .before .before .before .before .before .before .before .before .before .before .before .before .before .pre .0) (sym (c .before .before .before .before .before .before .before .before .succeeded .ensures) ∙ c .before .before .before .before .before .before .before .if1 .taken), next-few _ _ _ (c .before .before .before .before .before .before .before .before .before .before .before .before .before .before .before .before .before .before .before .before .before .args .state) (c .before .before .before .before .before .before .before .before .before .before .before .before .before .before .flush-buf .result) _ _ (c .before .before .before .before .before .before .before .before .before .before .before .before .before .before .flush-buf .ensures) (c .before .before .before .before .before .before .before .before .before .before .before .before .before .before .before .before .before .before .before .before .before .pre .0) (sym (c .before .before .before .before .before .before .before .before .succeeded .ensures) ∙ c .before .before .before .before .before .before .before .if1 .taken) _ _ (c .before .before .before .before .write .result) _ _ (c .before .before .before .before .write .ensures) (short (c .before .before .before .before .before .before .before .before .before .before .before .before .before .before .before .before .before .before .before .before .before .args .slice .now) (c .before .before .before .before .before .before .before .before .before .before .before .before .before .before .before .before .before .before .before .before .before .pre .1)) (λ v. write-counts (start .args .script .now) v (start .args .slice .now)) (λ v. write-uses (start .args .script .now) v (start .args .slice .now)))
 
 same-length : tie.Need-same-length
 same-length c = search needs
@@ -31,7 +32,8 @@ same-length-2 : tie.Need-same-length-2
 same-length-2 c = search needs
 
 returns : tie.Need-returns
-returns c = then-done _ _ _ _ _ (flush-told _ _ _ _ _ _ (c .before .before .before .before .before .before .before .before .before .before .before .before .before .before .flush-fit .ensures) (c .before .before .before .before .before .before .before .enum-told .given .1)) refl (c .before .before .before .before .write-fit .ensures)
+unfolding writeCall
+returns c = counted-told _ (c .before .before .before .before .before .write .result) _ _ _ _ (c .counted .ensures) (next-is _ _ _ (c .before .before .before .before .before .before .before .before .before .before .before .before .before .before .before .before .before .before .before .before .before .before .args .state) (c .before .before .before .before .before .before .before .before .before .before .before .before .before .before .before .flush-buf .result) _ _ (c .before .before .before .before .before .before .before .before .before .before .before .before .before .before .before .flush-buf .ensures) (c .before .before .before .before .before .before .before .before .before .before .before .before .before .before .before .before .before .before .before .before .before .before .pre .0) (sym (c .before .before .before .before .before .before .before .before .before .succeeded .ensures) ∙ c .before .before .before .before .before .before .before .before .if1 .taken) _ _ (c .before .before .before .before .before .write .result) _ _ (c .before .before .before .before .before .write .ensures) (short (c .before .before .before .before .before .before .before .before .before .before .before .before .before .before .before .before .before .before .before .before .before .before .args .slice .now) (c .before .before .before .before .before .before .before .before .before .before .before .before .before .before .before .before .before .before .before .before .before .before .pre .1)) (write-later _ _))
 
 same-length-3 : tie.Need-same-length-3
 same-length-3 c = search needs
@@ -40,32 +42,19 @@ same-length-4 : tie.Need-same-length-4
 same-length-4 c = search needs
 
 returns-2 : tie.Need-returns-2
-returns-2 c = then-stopped _ _ _ _ _ _ _ (flush-told _ _ _ _ _ _ (c .before .before .before .before .before .before .before .flush-fit .ensures) (c .enum-told2 .given .1)) refl
-
-same-length-5 : tie.Need-same-length-5
-same-length-5 c = search needs
-
-same-length-6 : tie.Need-same-length-6
-same-length-6 c = search needs
-
-returns-3 : tie.Need-returns-3
-returns-3 c = then-stopped _ _ _ _ _ _ _ (flush-told _ _ _ _ _ _ (c .before .before .before .before .before .before .before .before .flush-fit .ensures) (c .before .outcome .given .1)) refl
+returns-2 c = then-stopped _ _ _ _ _ _ _ (flush-made _ _ _ (c .before .before .before .before .before .before .before .before .before .before .before .before .before .before .args .state) (c .before .before .before .before .before .before .before .flush-buf .result) _ _ (c .before .before .before .before .before .before .before .flush-buf .ensures) (c .before .before .before .before .before .before .before .before .before .before .before .before .before .before .pre .0)) (sym (c .before .succeeded .ensures) ∙ c .if1 .left)
 
 pub flush-then-write-spec : {M : Type 1} → statement M
 flush-then-write-spec =
     tie.close
     (tie.spec
-    flush-fit-requires
-    enum-told
-    write-fit-requires
-    enum-told-2
-    enum-known-outcome
+    flush-buf-requires
+    succeeded-requires
+    write-requires
+    counted-requires
     same-length
     same-length-2
     returns
     same-length-3
     same-length-4
-    returns-2
-    same-length-5
-    same-length-6
-    returns-3)
+    returns-2)

@@ -1,16 +1,18 @@
--- `writer::linewriter::lines_through` meets its contract. Assumes nothing.
-use mathlib.Core.Path.{refl, sym, _∙_}
+-- `lines::linewriter::lines_through` meets its contract. Assumes nothing.
+use mathlib.Core.Path.{sym, _∙_}
 use lib.Seq.{length-take-le}
-use Rattle.writer.proofs.Lines.{then-done, then-stopped, through-told, through-fit, flush-rest-told}
+use Rattle.laws.proofs.Parts.{rest}
+use Rattle.flushing.proofs.Thens.{then-stopped}
+use Rattle.lines.proofs.Lines.{counted-told, short-take, short-rest, through-few, through-told, through-sound, through-next-few, through-next}
 use borrow.Author.Needs.{needs}
-use Rattle.writer.proofs.linewriter.lines_through.Statement.{statement}
-use Rattle.writer.proofs.linewriter.lines_through.Tie as tie
+use Rattle.lines.proofs.linewriter.lines_through.Statement.{statement}
+use Rattle.lines.proofs.linewriter.lines_through.Tie as tie
 
-slice-aggregate-write-all-fit : tie.Need-slice-aggregate-write-all-fit
-slice-aggregate-write-all-fit c = sym (length-take-le _ _ (c .before .before .before .before .before .before .before .pre .1))
+slice-aggregate-write-all : tie.Need-slice-aggregate-write-all
+slice-aggregate-write-all c = sym (length-take-le _ _ (c .before .before .before .before .before .before .before .pre .1 .1))
 
-write-all-fit-requires : tie.Need-write-all-fit-requires
-write-all-fit-requires c κs = search needs
+write-all-requires : tie.Need-write-all-requires
+write-all-requires c κs = search needs
 
 succeeded-requires : tie.Need-succeeded-requires
 succeeded-requires c κs = search needs
@@ -25,7 +27,10 @@ part-flush-then-write-all-end : tie.Need-part-flush-then-write-all-end
 part-flush-then-write-all-end c = search needs
 
 flush-then-write-all-requires : tie.Need-flush-then-write-all-requires
-flush-then-write-all-requires c κs = through-fit _ _ _ _ (c .before .before .before .before .before .before .before .before .before .before .before .before .before .before .before .before .before .before .args .state) (c .before .before .before .before .before .before .before .before .before .before .before .before .before .before .before .before .before .before .pre .0) (c .before .before .before .before .before .before .before .before .before .before .write-all-fit .result) _ _ (c .before .before .before .before .before .before .before .before .before .before .write-all-fit .ensures) (sym (c .before .before .before .before .succeeded .ensures) ∙ c .before .before .before .if1 .taken)
+flush-then-write-all-requires c κs = (through-sound _ _ _ _ (c .before .before .before .before .before .before .before .before .before .before .before .before .before .before .before .before .before .before .args .state) (c .before .before .before .before .before .before .before .before .before .before .write-all .result) _ _ (c .before .before .before .before .before .before .before .before .before .before .write-all .ensures) (c .before .before .before .before .before .before .before .before .before .before .before .before .before .before .before .before .before .before .pre .0) (short-take (c .before .before .before .before .before .before .before .before .before .before .before .before .before .before .before .before .before .before .args .e) (c .before .before .before .before .before .before .before .before .before .before .before .before .before .before .before .before .before .before .args .slice .now) (c .before .before .before .before .before .before .before .before .before .before .before .before .before .before .before .before .before .before .pre .1 .0)) (sym (c .before .before .before .before .succeeded .ensures) ∙ c .before .before .before .if1 .taken), short-rest (c .before .before .before .before .before .before .before .before .before .before .before .before .before .before .before .before .before .before .args .e) (c .before .before .before .before .before .before .before .before .before .before .before .before .before .before .before .before .before .before .args .slice .now) (c .before .before .before .before .before .before .before .before .before .before .before .before .before .before .before .before .before .before .pre .1 .0))
+
+counted-requires : tie.Need-counted-requires
+counted-requires c κs = (through-few _ _ _ _ (c .before .before .before .before .before .before .before .before .before .before .before .before .before .before .before .before .before .before .before .before .before .before .before .args .state) (c .before .before .before .before .before .before .before .before .before .before .before .before .before .before .before .write-all .result) _ _ (c .before .before .before .before .before .before .before .before .before .before .before .before .before .before .before .write-all .ensures) (c .before .before .before .before .before .before .before .before .before .before .before .before .before .before .before .before .before .before .before .before .before .before .before .pre .0) (short-take (c .before .before .before .before .before .before .before .before .before .before .before .before .before .before .before .before .before .before .before .before .before .before .before .args .e) (c .before .before .before .before .before .before .before .before .before .before .before .before .before .before .before .before .before .before .before .before .before .before .before .args .slice .now) (c .before .before .before .before .before .before .before .before .before .before .before .before .before .before .before .before .before .before .before .before .before .before .before .pre .1 .0)), through-next-few _ _ _ _ (c .before .before .before .before .before .before .before .before .before .before .before .before .before .before .before .before .before .before .before .before .before .before .before .args .state) (c .before .before .before .before .before .before .before .before .before .before .before .before .before .before .before .write-all .result) _ _ (c .before .before .before .before .before .before .before .before .before .before .before .before .before .before .before .write-all .ensures) (c .before .before .before .before .before .before .before .before .before .before .before .before .before .before .before .before .before .before .before .before .before .before .before .pre .0) (short-take (c .before .before .before .before .before .before .before .before .before .before .before .before .before .before .before .before .before .before .before .before .before .before .before .args .e) (c .before .before .before .before .before .before .before .before .before .before .before .before .before .before .before .before .before .before .before .before .before .before .before .args .slice .now) (c .before .before .before .before .before .before .before .before .before .before .before .before .before .before .before .before .before .before .before .before .before .before .before .pre .1 .0)) (sym (c .before .before .before .before .before .before .before .before .before .succeeded .ensures) ∙ c .before .before .before .before .before .before .before .before .if1 .taken) _ _ (rest (c .before .before .before .before .before .before .before .before .before .before .before .before .before .before .before .before .before .before .before .before .before .before .before .args .e) (c .before .before .before .before .before .before .before .before .before .before .before .before .before .before .before .before .before .before .before .before .before .before .before .args .slice .now)) (c .before .before .before .before .flush-then-write-all .result) _ _ (c .before .before .before .before .flush-then-write-all .ensures))
 
 same-length : tie.Need-same-length
 same-length c = search needs
@@ -34,7 +39,7 @@ same-length-2 : tie.Need-same-length-2
 same-length-2 c = search needs
 
 returns : tie.Need-returns
-returns c = then-done _ _ _ _ _ (through-told _ _ _ _ (c .before .before .before .before .before .before .before .before .before .before .before .before .before .before .before .before .before .before .before .before .before .before .before .args .state) (c .before .before .before .before .before .before .before .before .before .before .before .before .before .before .before .before .before .before .before .before .before .before .before .pre .0) (c .before .before .before .before .before .before .before .before .before .before .before .before .before .before .before .write-all-fit .result) _ _ (c .before .before .before .before .before .before .before .before .before .before .before .before .before .before .before .write-all-fit .ensures)) (sym (c .before .before .before .before .before .before .before .before .before .succeeded .ensures) ∙ c .before .before .before .before .before .before .before .before .if1 .taken) (flush-rest-told _ _ (c .before .before .before .before .before .before .before .before .before .before .before .before .before .before .before .before .before .before .before .before .before .before .before .args .slice .now) _ _ (c .before .before .before .before .flush-then-write-all .ensures))
+returns c = counted-told _ (c .before .before .before .before .before .flush-then-write-all .result) _ _ _ _ (c .counted .ensures) (through-next _ _ _ _ (c .before .before .before .before .before .before .before .before .before .before .before .before .before .before .before .before .before .before .before .before .before .before .before .before .args .state) (c .before .before .before .before .before .before .before .before .before .before .before .before .before .before .before .before .write-all .result) _ _ (c .before .before .before .before .before .before .before .before .before .before .before .before .before .before .before .before .write-all .ensures) (c .before .before .before .before .before .before .before .before .before .before .before .before .before .before .before .before .before .before .before .before .before .before .before .before .pre .0) (short-take (c .before .before .before .before .before .before .before .before .before .before .before .before .before .before .before .before .before .before .before .before .before .before .before .before .args .e) (c .before .before .before .before .before .before .before .before .before .before .before .before .before .before .before .before .before .before .before .before .before .before .before .before .args .slice .now) (c .before .before .before .before .before .before .before .before .before .before .before .before .before .before .before .before .before .before .before .before .before .before .before .before .pre .1 .0)) (sym (c .before .before .before .before .before .before .before .before .before .before .succeeded .ensures) ∙ c .before .before .before .before .before .before .before .before .before .if1 .taken) _ _ (rest (c .before .before .before .before .before .before .before .before .before .before .before .before .before .before .before .before .before .before .before .before .before .before .before .before .args .e) (c .before .before .before .before .before .before .before .before .before .before .before .before .before .before .before .before .before .before .before .before .before .before .before .before .args .slice .now)) (c .before .before .before .before .before .flush-then-write-all .result) _ _ (c .before .before .before .before .before .flush-then-write-all .ensures))
 
 same-length-3 : tie.Need-same-length-3
 same-length-3 c = search needs
@@ -43,19 +48,20 @@ same-length-4 : tie.Need-same-length-4
 same-length-4 c = search needs
 
 returns-2 : tie.Need-returns-2
-returns-2 c = then-stopped _ _ _ _ _ _ _ (through-told _ _ _ _ (c .before .before .before .before .before .before .before .before .before .before .before .before .before .before .before .args .state) (c .before .before .before .before .before .before .before .before .before .before .before .before .before .before .before .pre .0) (c .before .before .before .before .before .before .before .write-all-fit .result) _ _ (c .before .before .before .before .before .before .before .write-all-fit .ensures)) (sym (c .before .succeeded .ensures) ∙ c .if1 .left)
+returns-2 c = then-stopped _ _ _ _ _ _ _ (through-told _ _ _ _ (c .before .before .before .before .before .before .before .before .before .before .before .before .before .before .before .args .state) (c .before .before .before .before .before .before .before .write-all .result) _ _ (c .before .before .before .before .before .before .before .write-all .ensures) (c .before .before .before .before .before .before .before .before .before .before .before .before .before .before .before .pre .0) (short-take (c .before .before .before .before .before .before .before .before .before .before .before .before .before .before .before .args .e) (c .before .before .before .before .before .before .before .before .before .before .before .before .before .before .before .args .slice .now) (c .before .before .before .before .before .before .before .before .before .before .before .before .before .before .before .pre .1 .0))) (sym (c .before .succeeded .ensures) ∙ c .if1 .left)
 
 pub lines-through-spec : {M : Type 1} → statement M
 lines-through-spec =
     tie.close
     (tie.spec
-    slice-aggregate-write-all-fit
-    write-all-fit-requires
+    slice-aggregate-write-all
+    write-all-requires
     succeeded-requires
     sub-flush-then-write-all
     part-flush-then-write-all-start
     part-flush-then-write-all-end
     flush-then-write-all-requires
+    counted-requires
     same-length
     same-length-2
     returns

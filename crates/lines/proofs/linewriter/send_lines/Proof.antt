@@ -1,14 +1,14 @@
--- `writer::linewriter::send_lines` meets its contract. Assumes nothing.
+-- `lines::linewriter::send_lines` meets its contract. Assumes nothing.
 use mathlib.Core.Path.{refl, sym, ap}
 use native.Mathlib.Omega.{arith}
 use lib.ListN.{take}
 use lib.Seq.{length-take-le}
 use Rattle.card.specs.Device.{moves}
-use Rattle.writer.proofs.Lines.{lines-taken, tail-most, lines-kept, lines-stopped}
+use Rattle.lines.proofs.Lines.{lines-taken, tail-most, lines-kept, lines-stopped}
 use Rattle.writer.proofs.Calls.{device-room}
 use borrow.Author.Needs.{needs}
-use Rattle.writer.proofs.linewriter.send_lines.Statement.{statement}
-use Rattle.writer.proofs.linewriter.send_lines.Tie as tie
+use Rattle.lines.proofs.linewriter.send_lines.Statement.{statement}
+use Rattle.lines.proofs.linewriter.send_lines.Tie as tie
 
 slice-aggregate-write : tie.Need-slice-aggregate-write
 slice-aggregate-write c = sym (length-take-le _ _ (c .before .before .before .before .before .pre .1 .1))

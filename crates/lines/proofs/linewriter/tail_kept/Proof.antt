@@ -1,10 +1,10 @@
--- `writer::linewriter::tail_kept` meets its contract. Assumes nothing.
+-- `lines::linewriter::tail_kept` meets its contract. Assumes nothing.
 use borrow.Author.Tests.{eq-eqb, ne-eqb, le-leb, lt-leb}
-use Rattle.writer.specs.Line.{tailKept}
-use Rattle.writer.proofs.Newlines.{tail-window}
+use Rattle.lines.specs.Line.{tailKept}
+use Rattle.lines.proofs.Newlines.{tail-window}
 use borrow.Author.Needs.{needs}
-use Rattle.writer.proofs.linewriter.tail_kept.Statement.{statement}
-use Rattle.writer.proofs.linewriter.tail_kept.Tie as tie
+use Rattle.lines.proofs.linewriter.tail_kept.Statement.{statement}
+use Rattle.lines.proofs.linewriter.tail_kept.Tie as tie
 
 returns : tie.Need-returns
 unfolding tailKept

@@ -1,10 +1,10 @@
--- `writer::linewriter::window_kept` meets its contract. Assumes nothing.
+-- `lines::linewriter::window_kept` meets its contract. Assumes nothing.
 use mathlib.Core.Path.{refl}
 use borrow.Author.Tests.{eq-eqb, ne-eqb}
-use Rattle.writer.specs.Line.{window}
+use Rattle.lines.specs.Line.{window}
 use borrow.Author.Needs.{needs}
-use Rattle.writer.proofs.linewriter.window_kept.Statement.{statement}
-use Rattle.writer.proofs.linewriter.window_kept.Tie as tie
+use Rattle.lines.proofs.linewriter.window_kept.Statement.{statement}
+use Rattle.lines.proofs.linewriter.window_kept.Tie as tie
 
 lines-length-requires : tie.Need-lines-length-requires
 lines-length-requires c κs = search needs

@@ -1,12 +1,12 @@
--- `writer::newline::lines_length` meets its contract. The loop's invariant: the last newline, if any, is before place i. Assumes nothing.
+-- `lines::newline::lines_length` meets its contract. The loop's invariant: the last newline, if any, is before place i. Assumes nothing.
 use mathlib.Core.Path.{_≡_}
 use Prim.Native.Nat.{_≤_}
 use native.Mathlib.Omega.{arith}
 use lib.ListN.{length, take}
-use Rattle.writer.specs.Line.{linesLength}
-use Rattle.writer.proofs.Newlines.{search-begins, search-hit, search-miss, search-ends}
-use Rattle.writer.proofs.newline.lines_length.Statement.{statement}
-use Rattle.writer.proofs.newline.lines_length.Tie as tie
+use Rattle.lines.specs.Line.{linesLength}
+use Rattle.lines.proofs.Newlines.{search-begins, search-hit, search-miss, search-ends}
+use Rattle.lines.proofs.newline.lines_length.Statement.{statement}
+use Rattle.lines.proofs.newline.lines_length.Tie as tie
 
 abbrev Inv-loop : tie.InvT-loop
 Inv-loop s i₀ i = (i ≤ length s) × (linesLength s ≡ linesLength (take i s))

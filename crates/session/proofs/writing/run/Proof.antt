@@ -3,8 +3,7 @@ use mathlib.Core.Path.{_≡_, refl, sym, _∙_}
 use native.Mathlib.Omega.{arith}
 use borrow.Author.Needs.{needs}
 use lib.ListN.{length}
-use Rattle.writer.specs.World.{worldOf}
-use Rattle.writer.specs.Ledger.{new}
+use Rattle.flushing.specs.World.{worldOf, new}
 use Rattle.session.specs.Writing.{writerStep, writerEnds}
 use Rattle.session.proofs.Walks.{Inv, begins, again, ends, never}
 use Rattle.session.proofs.WriteSteps.{starts, ends-text}

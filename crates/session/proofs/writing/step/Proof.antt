@@ -2,7 +2,7 @@
 use mathlib.Core.Path.{_≡_, refl, sym, ap, ap₂, _∙_}
 use mathlib.Core.List.{List}
 use Prim.Native.Nat.{ℕ}
-use Rattle.writer.specs.World.{worldOf}
+use Rattle.flushing.specs.World.{worldOf}
 use Rattle.form.specs.declared.Call.{Call}
 use Rattle.form.specs.Calls.{asked}
 use Rattle.text.specs.declared.Name.the-variants.{Write, WriteAll, Flush}
