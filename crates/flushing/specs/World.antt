@@ -4,7 +4,7 @@ use mathlib.Core.Path.{_≡_}
 use Prim.Native.Nat.{ℕ, _+_, _-_, _≤_}
 use mathlib.Core.Bool.{Bool, false}
 use mathlib.Core.List.{List, [], _∷_}
-use lib.ListN.{length, drop}
+use lib.ListN.{length, drop, getD}
 use lib.Dec.{eqb}
 use Rattle.laws.specs.Pick.{pick}
 use Rattle.laws.specs.Put.{put}
@@ -88,6 +88,10 @@ kept w s n =
 abbrev pub isOk : Said → Bool
 isOk [] = false
 isOk (number ∷ values) = eqb number 0
+
+-- the count that an ok has
+abbrev pub countOf : Said → ℕ
+countOf answer = getD answer 1 0
 
 -- one thing after another: the first failure is the answer
 unfoldable pub andThen : Called → (World → Called) → Called

@@ -14,9 +14,8 @@ use lib.Seq.{take-at, length-take-le, take-nil}
 use borrow.Author.Tests.{eq-eqb, ne-eqb}
 use Rattle.laws.specs.Pick.{pick}
 use Rattle.card.specs.Answers.{Said, ok, done, interrupted, zero-taken, error}
-use Rattle.flushing.specs.World.{World, Called, Fit, begun, room, replies, isOk, new}
+use Rattle.flushing.specs.World.{World, Called, Fit, begun, room, replies, isOk, new, countOf}
 use Rattle.writer.specs.Writer.{write, flush}
-use Rattle.lines.specs.Line.{countOf}
 use Rattle.ledger.specs.Ledger.{accepted, ledger}
 use Rattle.ledger.proofs.Moves.{In, Moved, moved-in}
 use Rattle.ledger.proofs.Ledgers.{begun-fit, from-begun, write-moved, flush-moved}

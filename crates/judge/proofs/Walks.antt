@@ -14,8 +14,7 @@ use lib.Seq.{take-all, take-append-le, take-append-add, take-at, drop-at, take-t
 use Rattle.laws.specs.Pick.{pick}
 use Rattle.card.specs.Limits.{bytesMost}
 use Rattle.card.specs.Answers.{Said}
-use Rattle.flushing.specs.World.{isOk}
-use Rattle.lines.specs.Line.{countOf}
+use Rattle.flushing.specs.World.{isOk, countOf}
 use Rattle.ledger.specs.Ledger.{accepted}
 use Rattle.trace.specs.declared.Claim.{Claim}
 use Rattle.trace.specs.declared.Claim.the-variants.{Ok, Done, Interrupted, Zero, Error}

@@ -20,11 +20,11 @@ use Rattle.card.specs.Limits.{refusalOf, lengthRefusal}
 use Rattle.card.specs.Device.{exchange, moves, takes}
 use Rattle.card.proofs.Replies.{exchange-most, takes-fit, used-of-exchange}
 use Rattle.flushing.specs.declared.Sent.{Sent}
-use Rattle.flushing.specs.World.{World, Called, Fit, taken, drained, kept, capacity, room, replies, isOk, andThen, nothing, refusing, begun, worldOf, fresh, new}
+use Rattle.flushing.specs.World.{World, Called, Fit, taken, drained, kept, capacity, room, replies, isOk, andThen, nothing, refusing, begun, worldOf, fresh, new, countOf}
 use Rattle.flushing.specs.Send.{writeSaid, flushReplySaid, sendFrom}
 use Rattle.flushing.specs.Flush.{flushBuf, flushedBy}
 use Rattle.writer.specs.Writer.{stored, placed, deviceWrite, write, deviceFlush, flush, writeCall, flushCall}
-use Rattle.lines.specs.Line.{linesLength, endsLine, completed, tailKept, keepTail, countOf, sendLines, lineWrite, lineWriteCall}
+use Rattle.lines.specs.Line.{linesLength, endsLine, completed, tailKept, keepTail, sendLines, lineWrite, lineWriteCall}
 use Rattle.ledger.specs.Ledger.{Call, made, accepted, slice, after, prefixes, ledger}
 use Rattle.flushing.proofs.Sends.{within}
 use Rattle.flushing.proofs.Thens.{then-ok, then-failed, then-cases}

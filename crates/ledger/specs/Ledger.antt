@@ -5,9 +5,9 @@ use mathlib.Core.List.{List, [], _∷_, _++_}
 use lib.ListN.{take}
 use Rattle.laws.specs.Pick.{pick}
 use Rattle.card.specs.Answers.{Said}
-use Rattle.flushing.specs.World.{World, Called, isOk}
+use Rattle.flushing.specs.World.{World, Called, isOk, countOf}
 use Rattle.writer.specs.Writer.{writeCall, flushCall}
-use Rattle.lines.specs.Line.{lineWriteCall, countOf}
+use Rattle.lines.specs.Line.{lineWriteCall}
 
 -- a call of either writer; the line writer's flush is the plain one
 pub data Call : Type 0 where

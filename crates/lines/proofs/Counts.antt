@@ -9,11 +9,11 @@ use lib.Dec.{eqb}
 use Rattle.laws.proofs.Picks.{pick-holds}
 use Rattle.card.specs.Limits.{lengthRefusal}
 use Rattle.flushing.specs.declared.State.{State}
-use Rattle.flushing.specs.World.{World, worldOf, reported}
+use Rattle.flushing.specs.World.{World, worldOf, reported, countOf}
 use Rattle.flushing.proofs.Counts.{Reports, CountsCalls, flush-buf-counts, nothing-counts, then-counts, refusing-counts}
 use Rattle.writer.specs.Writer.{deviceWrite}
 use Rattle.writer.proofs.Counts.{device-write-counts, device-write-all-counts, write-counts, write-all-counts}
-use Rattle.lines.specs.Line.{linesLength, endsLine, completed, countOf, keepTail, sendLines, lineWrite, linesAll, lineWriteAll, lineWriteCall, lineWriteAllCall}
+use Rattle.lines.specs.Line.{linesLength, endsLine, completed, keepTail, sendLines, lineWrite, linesAll, lineWriteAll, lineWriteCall, lineWriteAllCall}
 
 -- ---- the calls where they meet no refusal
 

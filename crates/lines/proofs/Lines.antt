@@ -26,7 +26,7 @@ use Rattle.flushing.specs.declared.Answered.{Answered}
 use Rattle.flushing.specs.declared.Outcome.{Outcome}
 use Rattle.flushing.specs.declared.Outcome.the-variants.{Done}
 use Rattle.flushing.specs.declared.Sent.{Sent}
-use Rattle.flushing.specs.World.{World, Called, Told, Sound, worldOf, worldAfter, told, reported, taken, isOk, andThen, nothing, refusing}
+use Rattle.flushing.specs.World.{World, Called, Told, Sound, worldOf, worldAfter, told, reported, taken, isOk, andThen, nothing, refusing, countOf}
 use Rattle.flushing.specs.Send.{wholeSaid, writeSaid, sendFrom}
 use Rattle.flushing.specs.Flush.{flushBuf, flushBufCall}
 use Rattle.flushing.proofs.Sends.{within}
@@ -39,7 +39,7 @@ use Rattle.writer.proofs.Goes.{Goes, write-all-goes}
 use Rattle.writer.proofs.Laters.{write-all-later}
 use Rattle.writer.proofs.Counts.{write-all-counts, write-all-uses}
 use Rattle.writer.proofs.Calls.{device-all-room, device-all-few}
-use Rattle.lines.specs.Line.{linesLength, endsLine, completed, window, tailKept, keepTail, countOf, sendLines, lineWrite, linesAll, lineWriteAll}
+use Rattle.lines.specs.Line.{linesLength, endsLine, completed, window, tailKept, keepTail, sendLines, lineWrite, linesAll, lineWriteAll}
 use Rattle.lines.proofs.Newlines.{window-most, lines-most}
 
 -- ---- how much is kept

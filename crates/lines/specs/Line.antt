@@ -6,9 +6,9 @@ use mathlib.Core.List.{List, [], _∷_}
 use lib.ListN.{length, take, drop, getD}
 use lib.Dec.{leb, ltb, eqb}
 use Rattle.laws.specs.Pick.{pick}
-use Rattle.card.specs.Answers.{Said, ok}
+use Rattle.card.specs.Answers.{ok}
 use Rattle.card.specs.Limits.{lengthRefusal}
-use Rattle.flushing.specs.World.{World, Called, capacity, kept, andThen, nothing, refusing}
+use Rattle.flushing.specs.World.{World, Called, capacity, kept, andThen, nothing, refusing, countOf}
 use Rattle.flushing.specs.Flush.{flushBuf}
 use Rattle.writer.specs.Writer.{deviceWrite, deviceWriteAll, write, writeAll}
 
@@ -48,10 +48,6 @@ unfoldable pub keepTail : World → List ℕ → ℕ → ℕ → Called
 keepTail w s e f =
     let k = tailKept (capacity w) s e f in
     record { answer = ok (f + k); world = kept w (drop f s) k }
-
--- the count that an ok has
-abbrev pub countOf : Said → ℕ
-countOf answer = getD answer 1 0
 
 -- "one device write of everything up to and including the last newline (length e), taken f"
 unfoldable pub sendLines : List ℕ → World → List ℕ → ℕ → Called
