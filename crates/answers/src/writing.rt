@@ -7,7 +7,7 @@ use flushing::Answered;
 use flushing::State;
 use flushing::flush;
 use writer::bufwriter;
-use lines::linewriter;
+use line::linewriter;
 
 fn run(
     call: usize,

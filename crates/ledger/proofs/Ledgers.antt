@@ -24,15 +24,15 @@ use Rattle.flushing.specs.World.{World, Called, Fit, taken, drained, kept, capa
 use Rattle.flushing.specs.Send.{writeSaid, flushReplySaid, sendFrom}
 use Rattle.flushing.specs.Flush.{flushBuf, flushedBy}
 use Rattle.writer.specs.Writer.{stored, placed, deviceWrite, write, deviceFlush, flush, writeCall, flushCall}
-use Rattle.lines.specs.Line.{linesLength, endsLine, completed, tailKept, keepTail, sendLines, lineWrite, lineWriteCall}
+use Rattle.line.specs.Line.{linesLength, endsLine, completed, tailKept, keepTail, sendLines, lineWrite, lineWriteCall}
 use Rattle.ledger.specs.Ledger.{Call, made, accepted, slice, after, prefixes, ledger}
 use Rattle.flushing.proofs.Sends.{within}
 use Rattle.flushing.proofs.Thens.{then-ok, then-failed, then-cases}
 use Rattle.flushing.proofs.Cases.{flush-ok-done, flush-cases}
 use Rattle.writer.proofs.Cases.{written-cases, placed-by}
 use Rattle.ledger.proofs.Moves.{In, fit-in, Moved, moved-in, moved-then, unmoved, drained-moved, taken-moved, kept-moved}
-use Rattle.lines.proofs.Newlines.{lines-most}
-use Rattle.lines.proofs.Lines.{tail-most, lines-taken}
+use Rattle.line.proofs.Newlines.{lines-most}
+use Rattle.line.proofs.Lines.{tail-most, lines-taken}
 
 -- ---- the parts
 

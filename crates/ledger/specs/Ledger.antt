@@ -7,7 +7,7 @@ use Rattle.laws.specs.Pick.{pick}
 use Rattle.card.specs.Answers.{Said}
 use Rattle.flushing.specs.World.{World, Called, isOk, countOf}
 use Rattle.writer.specs.Writer.{writeCall, flushCall}
-use Rattle.lines.specs.Line.{lineWriteCall}
+use Rattle.line.specs.Line.{lineWriteCall}
 
 -- a call of either writer; the line writer's flush is the plain one
 pub data Call : Type 0 where

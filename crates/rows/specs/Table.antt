@@ -6,7 +6,7 @@ use Rattle.card.specs.Answers.{ok, done, zero-taken, error}
 use Rattle.flushing.specs.World as Writer
 use Rattle.flushing.specs.World.{worldOf}
 use Rattle.writer.specs.Writer.{writeCall, writeAllCall, flushCall}
-use Rattle.lines.specs.Line.{newline, lineWriteCall}
+use Rattle.line.specs.Line.{newline, lineWriteCall}
 use Rattle.reader.specs.World as Reader
 use Rattle.reader.specs.Buffer.{shown}
 use Rattle.reader.specs.Reader.{read, peek}

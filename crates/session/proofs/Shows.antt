@@ -11,7 +11,7 @@ use borrow.Author.Tests.{eq-eqb, ne-eqb}
 use Rattle.laws.specs.Pick.{pick}
 use Rattle.laws.specs.Put.{put}
 use Rattle.card.specs.Limits.{bytesMost}
-use Rattle.ledger.specs.Ledger as Writer
+use Rattle.flushing.specs.World as Writer
 use Rattle.reader.specs.World.{world}
 use Rattle.reader.specs.Buffer as Reader
 use Rattle.trace.specs.Trace.{traceOf}

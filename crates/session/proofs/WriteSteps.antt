@@ -13,7 +13,7 @@ use Rattle.flushing.specs.declared.State.{State}
 use Rattle.flushing.specs.declared.Answered.{Answered}
 use Rattle.flushing.specs.World.{World, Told, worldOf, fresh, told, reported, new}
 use Rattle.writer.specs.Writer.{writeCall, writeAllCall}
-use Rattle.lines.specs.Line.{lineWriteCall, lineWriteAllCall}
+use Rattle.line.specs.Line.{lineWriteCall, lineWriteAllCall}
 use Rattle.form.specs.Calls.{Asked}
 use Rattle.text.specs.declared.Name.{Name}
 use Rattle.text.specs.Printed.{Printed, printed}

@@ -8,7 +8,7 @@ use Rattle.laws.specs.Pick.{pick}
 use Rattle.card.specs.Limits.{bytesMost}
 use Rattle.flushing.specs.World.{World, Told, reported, new}
 use Rattle.writer.specs.Writer.{writeCall, writeAllCall, flushCall}
-use Rattle.lines.specs.Line.{lineWriteCall, lineWriteAllCall}
+use Rattle.line.specs.Line.{lineWriteCall, lineWriteAllCall}
 use Rattle.form.specs.Calls.{Asked, write, write-all, flush, read, peek, consume, seek-relative, fill}
 use Rattle.text.specs.declared.Name.{Name}
 use Rattle.text.specs.declared.Name.the-variants.{Write, WriteAll, Flush}

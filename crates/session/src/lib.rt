@@ -11,7 +11,7 @@ use text::lines;
 ghost use mathlib.Core.Path.{_≡_};
 ghost use lib.ListN.{take, drop, replicate};
 ghost use Rattle.card.specs.Limits.{bytesMost};
-ghost use Rattle.ledger.specs.Ledger as Writer;
+ghost use Rattle.flushing.specs.World as Writer;
 ghost use Rattle.reader.specs.World.{world};
 ghost use Rattle.reader.specs.Buffer as Reader;
 ghost use Rattle.session.specs.Writing.{writerStep, writerEnds};

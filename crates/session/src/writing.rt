@@ -7,7 +7,7 @@ use text::lines;
 use flushing::Answered;
 use flushing::State;
 use writer::bufwriter;
-use lines::linewriter;
+use line::linewriter;
 ghost use mathlib.Core.Path.{_≡_};
 ghost use Prim.Native.Nat.{_≤_};
 ghost use lib.ListN.{length, take, drop};
