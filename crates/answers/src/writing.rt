@@ -6,8 +6,8 @@ use card::bytes;
 use flushing::Answered;
 use flushing::State;
 use flushing::flush;
-use writer::bufwriter;
 use line::linewriter;
+use writer::bufwriter;
 
 fn run(
     call: usize,

@@ -12,13 +12,7 @@ ghost use Rattle.flushing.specs.Send.{sendFrom};
 // Offers the unwritten rest of source to the device until none is left, or until it takes nothing
 // or fails. It refuses nothing: past the script's end a device write fails, and past the medium's
 // end it takes nothing.
-pub fn send_all(
-    source: &[u8],
-    script: &[u32],
-    used: usize,
-    medium: &mut [u8],
-    out: usize,
-) -> Sent
+pub fn send_all(source: &[u8], script: &[u32], used: usize, medium: &mut [u8], out: usize) -> Sent
     ensures { λ r. ⌜ (r ≡ sendFrom (drop used (now (script .entry))) (length (now (source .entry))) (length (now (medium .entry)) - out) 0 used 0) × (now (medium .exit) ≡ put (now (medium .entry)) out (now (source .entry)) (r .sent)) ⌝ }
 {
     let mut sent = 0;

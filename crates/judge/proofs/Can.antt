@@ -23,7 +23,7 @@ use Rattle.flushing.specs.declared.Sent.{Sent}
 use Rattle.flushing.specs.World.{World, Called, Fit, capacity, spare, room, replies, isOk, andThen, nothing}
 use Rattle.flushing.specs.Send.{flushSaid, writeSaid, flushReplySaid, sendFrom, sentBy}
 use Rattle.flushing.specs.Flush.{flushBuf, flushedBy}
-use Rattle.writer.specs.Writer.{stored, placed, cold, written, deviceWrite, write, deviceFlush, flush}
+use Rattle.writer.specs.Writer.{stored, placed, readied, cold, written, deviceWrite, write, deviceFlush, flush}
 use Rattle.flushing.proofs.Sends.{send-done, send-accept, send-zero, send-failed}
 use Rattle.flushing.proofs.Flushes.{Keeps, keeps, fit-after}
 use Rattle.flushing.proofs.Thens.{then-ok, then-failed}
@@ -187,7 +187,7 @@ placed-direct answer device v s h = rw (le-leb (length (v .storage)) (length s) 
 
 module _ (script : List ℕ) (w : World) (s : List ℕ) (fit : Fit script w) where
   write-is-stored : w .held + length s ≤ length (w .storage) → length s < length (w .storage) → write script w s ≡ stored (ok (length s)) w s
-  unfolding write written cold placed
+  unfolding write written cold readied placed
   write-is-stored h l = by (decLe (spare w) (length s))
     where
       by : Dec (spare w ≤ length s) → write script w s ≡ stored (ok (length s)) w s
@@ -198,7 +198,7 @@ module _ (script : List ℕ) (w : World) (s : List ℕ) (fit : Fit script w) whe
       by (no k) = rw (lt-ltb (length s) (spare w) (omega arith))
 
   write-is-direct : w .held + length s ≤ length (w .storage) → length (w .storage) ≤ length s → write script w s ≡ deviceWrite script w s
-  unfolding write written cold placed
+  unfolding write written cold readied placed
   write-is-direct h l = rw (le-ltb (length s) (spare w) (omega (arith, fit .held)), le-ltb (spare w) (length s) (omega (arith, fit .held))) (then-ok (nothing w) (λ v. placed (ok (length s)) (λ u. deviceWrite script u s) v s) refl ∙ inner)
     where
       inner : placed (ok (length s)) (λ u. deviceWrite script u s) w s ≡ deviceWrite script w s
@@ -206,7 +206,7 @@ module _ (script : List ℕ) (w : World) (s : List ℕ) (fit : Fit script w) whe
 
   -- more than fits: the flush first
   write-flushes : length (w .storage) < w .held + length s → write script w s ≡ andThen (flushBuf script w) (λ v. placed (ok (length s)) (λ u. deviceWrite script u s) v s)
-  unfolding write written cold
+  unfolding write written cold readied
   write-flushes h = rw (le-ltb (length s) (spare w) (omega (arith, fit .held)), lt-ltb (spare w) (length s) (omega (arith, fit .held)))
 
 -- ---- the replies for each row

@@ -2,8 +2,8 @@
 use crate::print;
 use flushing::Answered;
 use flushing::State;
-use writer::bufwriter;
 use line::linewriter;
+use writer::bufwriter;
 
 // A line: answer, device calls, the bytes held, the bytes out and the whole storage.
 fn show(row: usize, name: &[u8], a: Answered, storage: &[u8], medium: &[u8]) {

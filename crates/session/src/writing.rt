@@ -1,13 +1,13 @@
 // A writer's session.
+use flushing::Answered;
+use flushing::State;
 use form::Call;
 use form::CallRead;
 use form::calls;
+use line::linewriter;
 use text::Name;
 use text::lines;
-use flushing::Answered;
-use flushing::State;
 use writer::bufwriter;
-use line::linewriter;
 ghost use mathlib.Core.Path.{_≡_};
 ghost use Prim.Native.Nat.{_≤_};
 ghost use lib.ListN.{length, take, drop};

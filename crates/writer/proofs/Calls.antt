@@ -1,16 +1,16 @@
 -- The calls' definitions as the code builds them: each lemma says what a way through the code tells.
 -- Assumes nothing.
-use mathlib.Core.Path.{_≡_, refl, sym, ap, _∙_}
+use mathlib.Core.Path.{_≡_, refl, sym, ap, _∙_, subst}
 use mathlib.Core.Bool.{true, false}
 use mathlib.Core.List.{List}
 use Prim.Native.Nat.{ℕ, _+_, _-_, _≤_, _<_, min}
 use native.Mathlib.Nat.{add-zero}
 use native.Mathlib.Omega.{arith}
 use lib.ListN.{length, drop, length-drop}
-use lib.Dec.{eqb}
-use borrow.Author.Tests.{le-leb, lt-leb, le-ltb, lt-ltb}
+use lib.Dec.{eqb, ltb}
+use borrow.Author.Tests.{le-leb, lt-leb, le-ltb, lt-ltb, ltb-false}
 use Rattle.laws.specs.Put.{put}
-use Rattle.laws.proofs.Picks.{by-test}
+use Rattle.laws.proofs.Picks.{by-test, pick-holds}
 use Rattle.card.specs.Answers.{Said, said, ok, done}
 use Rattle.card.specs.Limits.{refusalOf}
 use Rattle.card.specs.declared.Exchange.{Exchange}
@@ -19,13 +19,15 @@ use Rattle.card.proofs.Replies.{exchange-most}
 use Rattle.flushing.specs.declared.State.{State}
 use Rattle.flushing.specs.declared.Answered.{Answered}
 use Rattle.flushing.specs.declared.Sent.{Sent}
-use Rattle.flushing.specs.World.{World, Called, Told, Fit, Sound, worldOf, worldAfter, told, reported, refusing, spare, isOk, andThen}
+use Rattle.flushing.specs.World.{World, Called, Told, Fit, Sound, worldOf, worldAfter, told, reported, refusing, nothing, spare, isOk, andThen}
 use Rattle.flushing.specs.Send.{wholeSaid, writeSaid, flushReplySaid, sendFrom}
 use Rattle.flushing.specs.Flush.{flushBuf, flushBufCall}
 use Rattle.flushing.proofs.Sends.{later, within, send-later}
-use Rattle.flushing.proofs.Thens.{then-failed}
-use Rattle.flushing.proofs.Calls.{limits, sound-fit, sound-call, flush-made, flush-ready, flush-unrefused}
-use Rattle.writer.specs.Writer.{placed, cold, deviceWrite, takenBy, deviceWriteAll, written, deviceFlush, flush, flushCall}
+use Rattle.flushing.proofs.Flushes.{keeps, fit-after}
+use Rattle.flushing.proofs.Cases.{flush-ok-done}
+use Rattle.flushing.proofs.Thens.{then-failed, told-called}
+use Rattle.flushing.proofs.Calls.{sound-fit, sound-call, flush-made, flush-ready, flush-unrefused}
+use Rattle.writer.specs.Writer.{placed, readied, cold, deviceWrite, takenBy, deviceWriteAll, written, deviceFlush, flush, flushCall}
 
 -- ---- `write` and `write_all`, after the flush or without one
 
@@ -67,19 +69,51 @@ stored-is st me s state writes answer device x px h k =
 
 -- ---- the cold road
 
+-- room made, or there
+module _ (script st me : List ℕ) (state : State) (n : ℕ) (sound : Sound script (worldOf state st me)) where
+  pub room-flushed : (r : Answered) (x y : List ℕ) → told r x y ≡ reported (flushBufCall script (worldOf state st me)) → length st - state .held < n → told r x y ≡ reported (readied script (worldOf state st me) n)
+  unfolding readied flushBufCall
+  room-flushed r x y e h = rw (lt-ltb _ _ h) (e ∙ ap reported (sound-call script (worldOf state st me) (λ v. flushBuf script v) sound))
+
+  pub room-there : n ≤ length st - state .held → record { answer = done; calls = 0; held = state .held; out = state .out; used = state .used; storage = st; medium = me } ≡ reported (readied script (worldOf state st me) n)
+  unfolding readied
+  room-there h = rw (le-ltb _ _ h) refl
+
+  -- what is so of it
+  record Readied (c : Called) : Type 0 where
+    pub flushes : c .world .flushes ≡ 0
+    pub ready : isOk (c .answer) ≡ true → Fit script (c .world) × (c .world .held + min n (length (c .world .storage)) ≤ length (c .world .storage))
+
+  readied-is : Readied (readied script (worldOf state st me) n)
+  unfolding readied
+  readied-is =
+      let fit = sound-fit script (worldOf state st me) sound (omega arith) in
+      pick-holds Readied (ltb (length st - state .held) n) (flushBuf script (worldOf state st me)) (nothing (worldOf state st me))
+      (λ t. record {
+        flushes = keeps script (worldOf state st me) fit .flushes-same;
+        ready = λ o.
+            let f = fit-after script (worldOf state st me) (flushBuf script (worldOf state st me) .world) fit (ap (λ (a : Said). record { answer = a; world = flushBuf script (worldOf state st me) .world }) (flush-ok-done script (worldOf state st me) o)) in
+            (f .0, emptied (flushBuf script (worldOf state st me) .world .held) n (length (flushBuf script (worldOf state st me) .world .storage)) (f .1));
+      })
+      (λ t. record { flushes = refl; ready = λ o. (fit, fits (state .held) n (length st) (fit .held) (ltb-false (length st - state .held) n t)) })
+    where
+      emptied : (h a k : ℕ) → h ≡ 0 → h + min a k ≤ k
+      emptied h a k z = omega arith
+
+      fits : (a b c : ℕ) → a ≤ c → b ≤ c - a → a + min b c ≤ c
+      fits a b c p q = omega arith
+
+  -- for those who make room
+  module _ (r : Answered) (x y : List ℕ) (e : told r x y ≡ reported (readied script (worldOf state st me) n)) where
+    pub room-made : readied script (worldOf state st me) n ≡ record { answer = said (r .answer); world = worldAfter (r .state) x y (r .calls) }
+    room-made = told-called (readied script (worldOf state st me) n) r x y e (readied-is .flushes)
+
+    pub room-ready : isOk (said (r .answer)) ≡ true → Fit script (worldAfter (r .state) x y (r .calls)) × (r .state .held + min n (length x) ≤ length x)
+    room-ready o =
+        let k : Readied (record { answer = said (r .answer); world = worldAfter (r .state) x y (r .calls) }) = subst Readied room-made readied-is in
+        k .ready o
+
 module _ (script : List ℕ) (answer : Said) (device : World → Called) (w : World) (s : List ℕ) where
-  pub cold-done : (v : World) (a : Said) (t : Told) → flushBuf script w ≡ record { answer = a; world = v } → isOk a ≡ true → t ≡ reported (placed answer device v s) → spare w < length s → t ≡ reported (cold script answer device w s)
-  unfolding cold andThen
-  cold-done v a t e o q h = rw (lt-ltb _ _ h) (rw e (rw o q))
-
-  pub cold-stopped : (state : State) (x y : List ℕ) (writes : ℕ) (a : Said) → flushBuf script w ≡ record { answer = a; world = worldAfter state x y writes } → isOk a ≡ false → spare w < length s → record { answer = a; calls = writes; held = state .held; out = state .out; used = state .used; storage = x; medium = y } ≡ reported (cold script answer device w s)
-  unfolding cold andThen
-  cold-stopped state x y writes a e q h = rw (lt-ltb _ _ h) (rw e (rw q (cc (add-zero writes))))
-
-  pub cold-room : (t : Told) → t ≡ reported (placed answer device w s) → length s ≤ spare w → t ≡ reported (cold script answer device w s)
-  unfolding cold andThen
-  cold-room t q h = rw (le-ltb _ _ h) q
-
   pub road-cold : (t : Told) → t ≡ reported (cold script answer device w s) → spare w ≤ length s → t ≡ reported (written script answer device w s)
   unfolding written
   road-cold t q h = rw (le-ltb _ _ h) q
@@ -90,21 +124,6 @@ unfolding written
 road-hot script st me s state writes answer device x px h =
     let n : min (length s) (min (length s) (length st - state .held)) ≡ length s = omega arith in
     rw (lt-ltb _ _ h) (cc (add-zero writes))
-
--- ready for a slice: after a flush, and where it fits
-pub ready : (script st me : List ℕ) (state : State) (writes n : ℕ) → Fit script (worldAfter state st me writes) × (state .held ≡ 0) → Fit script (worldAfter state st me writes) × (state .held + min n (length st) ≤ length st)
-ready script st me state writes n f = (f .0, nothing-held (state .held) n (length st) (f .1))
-  where
-    nothing-held : (h a k : ℕ) → h ≡ 0 → h + min a k ≤ k
-    nothing-held h a k z = omega arith
-
-pub ready-room : (script st me : List ℕ) (state : State) (n : ℕ) → Sound script (worldOf state st me) → n ≤ length st - state .held → Fit script (worldOf state st me) × (state .held + min n (length st) ≤ length st)
-ready-room script st me state n sound h =
-    let f = sound-fit script (worldOf state st me) sound (omega arith) in
-    (f, fits (state .held) n (length st) (f .held) h)
-  where
-    fits : (a b c : ℕ) → a ≤ c → b ≤ c - a → a + min b c ≤ c
-    fits a b c p q = omega arith
 
 -- ---- `flush`
 

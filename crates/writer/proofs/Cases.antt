@@ -13,7 +13,7 @@ use Rattle.flushing.specs.World.{World, Called, Fit, spare, nothing}
 use Rattle.flushing.specs.Flush.{flushBuf}
 use Rattle.flushing.proofs.Thens.{then-ok}
 use Rattle.flushing.proofs.Cases.{flush-cases}
-use Rattle.writer.specs.Writer.{stored, placed, cold, written}
+use Rattle.writer.specs.Writer.{stored, placed, readied, cold, written}
 
 module _ (script : List ℕ) (answer : Said) (device : World → Called) (w : World) (s : List ℕ) (P : Called → Type 0) (fit : Fit script w) (on-stored : w .held + length s ≤ length (w .storage) → length s < length (w .storage) → P (stored answer w s)) (on-direct : w .held ≡ 0 → length (w .storage) ≤ length s → P (device w)) (on-flushed : (v : World) → flushBuf script w ≡ record { answer = done; world = v } → Fit script v → v .held ≡ 0 → length (w .storage) < w .held + length s → P (placed answer device v s)) (on-stopped : (flushBuf script w .answer ≡ done → ⊥) → length (w .storage) < w .held + length s → P (flushBuf script w)) where
   placed-cases : spare w ≡ length s → P (placed answer device w s)
@@ -25,7 +25,7 @@ module _ (script : List ℕ) (answer : Said) (device : World → Called) (w : Wo
       by (no h) = rw (lt-leb (length (w .storage)) (length s) (omega arith)) (on-stored (omega (arith, fit .held)) (omega arith))
 
   cold-cases : spare w ≤ length s → P (cold script answer device w s)
-  unfolding cold
+  unfolding cold readied
   cold-cases h = by (decLe (length s) (spare w))
     where
       by : Dec (length s ≤ spare w) → P (cold script answer device w s)

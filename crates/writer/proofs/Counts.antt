@@ -21,7 +21,7 @@ use Rattle.flushing.specs.World.{World, Called, capacity, spare, room, replies,
 use Rattle.flushing.specs.Send.{wholeSaid, writeSaid, flushReplySaid, sendFrom}
 use Rattle.flushing.proofs.Sends.{within}
 use Rattle.flushing.proofs.Counts.{endedOut, Counts, send-counts, Reports, CountsCalls, flush-buf-counts, nothing-counts, then-counts, refusing-counts, Uses, flush-buf-uses, then-uses}
-use Rattle.writer.specs.Writer.{deviceWrite, deviceWriteAll, stored, placed, cold, written, write, writeAll, deviceFlush, flush, writeCall, writeAllCall, flushCall}
+use Rattle.writer.specs.Writer.{deviceWrite, deviceWriteAll, stored, placed, readied, cold, written, write, writeAll, deviceFlush, flush, writeCall, writeAllCall, flushCall}
 
 -- ---- the parts of a call, from world w
 
@@ -63,7 +63,7 @@ unfolding Reports
 stored-counts answer w s none = omega (arith, none)
 
 written-counts : (script : List ℕ) (answer : Said) (device : World → Called) (w : World) (s : List ℕ) → ended answer ≡ 0 → ((v : World) → Reports v (device v)) → Reports w (written script answer device w s)
-unfolding written cold placed
+unfolding written cold readied placed
 written-counts script answer device w s none d =
     pick-holds (Reports w) (ltb (length s) (spare w)) _ _ (λ e. stored-counts answer w s none)
     (λ e. then-counts w _ _
@@ -95,7 +95,7 @@ device-write-all-uses script w s h =
     omega (arith, within (replies script w) (length s) (room w) 0 (w .used) (w .writes) .end)
 
 written-uses : (script : List ℕ) (answer : Said) (device : World → Called) (w : World) (s : List ℕ) → ((v : World) → Uses script v (device v)) → Uses script w (written script answer device w s)
-unfolding written cold placed Uses
+unfolding written cold readied placed Uses
 written-uses script answer device w s d =
     pick-holds (Uses script w) (ltb (length s) (spare w)) _ _ (λ e h. h)
     (λ e. then-uses script w _ _

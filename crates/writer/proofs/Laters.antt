@@ -14,7 +14,7 @@ use Rattle.flushing.specs.World.{World, Called, capacity, spare, room, replies,
 use Rattle.flushing.specs.Flush.{flushBuf}
 use Rattle.flushing.proofs.Sends.{send-later}
 use Rattle.flushing.proofs.Laters.{from, later, Counting, flush-later, then-later}
-use Rattle.writer.specs.Writer.{deviceWrite, takenBy, deviceWriteAll, stored, placed, cold, written, write, writeAll}
+use Rattle.writer.specs.Writer.{deviceWrite, takenBy, deviceWriteAll, stored, placed, readied, cold, written, write, writeAll}
 
 device-later : (script s : List ℕ) → Counting (λ w. deviceWrite script w s)
 unfolding deviceWrite Counting
@@ -49,7 +49,7 @@ unfolding placed
 placed-later answer device s d = pick-later (λ w. leb (capacity w) (length s)) device (λ w. stored answer w s) (λ k w. refl) d (stored-later answer s)
 
 cold-later : (script : List ℕ) (answer : Said) (device : World → Called) (s : List ℕ) → Counting device → Counting (λ w. cold script answer device w s)
-unfolding cold
+unfolding cold readied
 cold-later script answer device s d =
     then-later (λ w. pick (ltb (spare w) (length s)) (flushBuf script w) (nothing w)) (λ v. placed answer device v s)
     (pick-later (λ w. ltb (spare w) (length s)) (λ w. flushBuf script w) nothing (λ k w. refl) (flush-later script) nothing-later)

@@ -37,10 +37,13 @@ stored answer w s = record { answer = answer; world = kept w s (length s) }
 unfoldable pub placed : Said → (World → Called) → World → List ℕ → Called
 placed answer device w s = pick (leb (capacity w) (length s)) (device w) (stored answer w s)
 
--- "Else, if length > spare, `flush_buf` first, and its failure is the answer with nothing of the slice taken", then placed
+-- "Else, if length > spare, `flush_buf` first"
+unfoldable pub readied : List ℕ → World → ℕ → Called
+readied script w n = pick (ltb (spare w) n) (flushBuf script w) (nothing w)
+
+-- "and its failure is the answer with nothing of the slice taken", then placed
 unfoldable pub cold : List ℕ → Said → (World → Called) → World → List ℕ → Called
-cold script answer device w s =
-    andThen (pick (ltb (spare w) (length s)) (flushBuf script w) (nothing w)) (λ v. placed answer device v s)
+cold script answer device w s = andThen (readied script w (length s)) (λ v. placed answer device v s)
 
 -- "length < spare is stored"
 unfoldable pub written : List ℕ → Said → (World → Called) → World → List ℕ → Called

@@ -15,7 +15,7 @@ ghost use lib.ListN.{length, take};
 ghost use Rattle.card.specs.Answers.{said, ok, done};
 ghost use Rattle.flushing.specs.World.{Fit, Sound, worldOf, worldAfter, told, reported, fresh};
 ghost use Rattle.flushing.specs.Send.{wholeSaid, writeSaid, flushReplySaid};
-ghost use Rattle.writer.specs.Writer.{placed, cold, deviceWrite, deviceWriteAll, writeCall, writeAllCall, flushCall};
+ghost use Rattle.writer.specs.Writer.{placed, readied, cold, deviceWrite, deviceWriteAll, writeCall, writeAllCall, flushCall};
 
 // ---- the cases of an answer
 
@@ -34,7 +34,7 @@ fn write_answer(reply: Reply) -> Answer
 {
     match reply {
         Reply::Accept(n) => Answer::Ok(n),
-        Reply::Interrupted => Answer::Interrupted,
+        Reply::Interrupted => Answer::Interrupted, // handed up, not retried
         Reply::Error(code) => Answer::Error(code),
     }
 }
@@ -65,7 +65,8 @@ fn place(
 {
     let held = state.held;
     let out = state.out;
-    if storage.len() <= slice.len() {
+    let length = slice.len();
+    if storage.len() <= length {
         let e = device::write(script, state.used, slice, medium, out);
         let reply = e.reply;
         return Answered {
@@ -78,12 +79,12 @@ fn place(
             },
         };
     }
-    bytes::copy(storage, held, slice, slice.len());
+    bytes::copy(storage, held, slice, length);
     Answered {
-        answer: Answer::Ok(slice.len()),
+        answer: Answer::Ok(length),
         calls: writes,
         state: State {
-            held: held + slice.len(),
+            held: held + length,
             out,
             used: state.used,
         },
@@ -129,7 +130,27 @@ fn place_all(
     }
 }
 
-// The buffer is flushed first where the slice does not fit.
+// The buffer is flushed first where so many bytes do not fit.
+fn make_room(
+    state: State,
+    storage: &mut [u8],
+    script: &[u32],
+    medium: &mut [u8],
+    length: usize,
+) -> Answered
+    requires { ⌜ Sound (now script) (worldOf state (now storage) (now medium)) ⌝ }
+    ensures { λ r. ⌜ told r (now (storage .exit)) (now (medium .exit)) ≡ reported (readied (now (script .entry)) (worldOf state (now (storage .entry)) (now (medium .entry))) length) ⌝ }
+{
+    if storage.len() - state.held < length {
+        return flush::flush_buf(state, storage, script, medium);
+    }
+    Answered {
+        answer: Answer::Done,
+        calls: 0,
+        state,
+    }
+}
+
 fn write_cold(
     state: State,
     storage: &mut [u8],
@@ -140,16 +161,13 @@ fn write_cold(
     requires { ⌜ Sound (now script) (worldOf state (now storage) (now medium)) ⌝ }
     ensures { λ r. ⌜ told r (now (storage .exit)) (now (medium .exit)) ≡ reported (cold (now (script .entry)) (ok (length (now (slice .entry)))) (λ v. deviceWrite (now (script .entry)) v (now (slice .entry))) (worldOf state (now (storage .entry)) (now (medium .entry))) (now (slice .entry))) ⌝ }
 {
-    if storage.len() - state.held < slice.len() {
-        let f = flush::flush_buf(state, storage, script, medium);
-        let answer = f.answer;
-        let flushed = f.state;
-        if flush::succeeded(answer) {
-            return place(flushed, storage, script, medium, slice, f.calls);
-        }
-        return f;
+    let f = make_room(state, storage, script, medium, slice.len());
+    let answer = f.answer;
+    let ready = f.state;
+    if flush::succeeded(answer) {
+        return place(ready, storage, script, medium, slice, f.calls);
     }
-    place(state, storage, script, medium, slice, 0)
+    f
 }
 
 fn write_all_cold(
@@ -162,16 +180,13 @@ fn write_all_cold(
     requires { ⌜ Sound (now script) (worldOf state (now storage) (now medium)) ⌝ }
     ensures { λ r. ⌜ told r (now (storage .exit)) (now (medium .exit)) ≡ reported (cold (now (script .entry)) done (λ v. deviceWriteAll (now (script .entry)) v (now (slice .entry))) (worldOf state (now (storage .entry)) (now (medium .entry))) (now (slice .entry))) ⌝ }
 {
-    if storage.len() - state.held < slice.len() {
-        let f = flush::flush_buf(state, storage, script, medium);
-        let answer = f.answer;
-        let flushed = f.state;
-        if flush::succeeded(answer) {
-            return place_all(flushed, storage, script, medium, slice, f.calls);
-        }
-        return f;
+    let f = make_room(state, storage, script, medium, slice.len());
+    let answer = f.answer;
+    let ready = f.state;
+    if flush::succeeded(answer) {
+        return place_all(ready, storage, script, medium, slice, f.calls);
     }
-    place_all(state, storage, script, medium, slice, 0)
+    f
 }
 
 // ---- the public calls

@@ -36,8 +36,8 @@ returns c =
 copy-requires : tie.Need-copy-requires
 copy-requires c κs = search needs
 
-add-t25 : tie.Need-add-t25
-add-t25 c = search needs
+add-t12 : tie.Need-add-t12
+add-t12 c = search needs
 
 same-length-2 : tie.Need-same-length-2
 same-length-2 c = search needs
@@ -59,6 +59,6 @@ place-spec =
     same-length
     returns
     copy-requires
-    add-t25
+    add-t12
     same-length-2
     returns-2)

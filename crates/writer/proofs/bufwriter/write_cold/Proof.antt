@@ -1,22 +1,20 @@
 -- `writer::bufwriter::write_cold` meets its contract. Assumes nothing.
 use mathlib.Core.Path.{sym, _∙_}
-use Rattle.flushing.proofs.Calls.{limits, flush-made, flush-ready}
-use Rattle.writer.proofs.Calls.{cold-done, cold-stopped, cold-room, ready, ready-room}
+use Rattle.flushing.proofs.Thens.{then-done, then-stopped}
+use Rattle.writer.specs.Writer.{cold}
+use Rattle.writer.proofs.Calls.{room-made, room-ready}
 use borrow.Author.Needs.{needs}
 use Rattle.writer.proofs.bufwriter.write_cold.Statement.{statement}
 use Rattle.writer.proofs.bufwriter.write_cold.Tie as tie
 
-sub-if1 : tie.Need-sub-if1
-sub-if1 c = limits (c .before .before .before .before .before .args .script .now) _ (c .before .before .before .before .before .pre) .filled-fits
-
-flush-buf-requires : tie.Need-flush-buf-requires
-flush-buf-requires c κs = search needs
+make-room-requires : tie.Need-make-room-requires
+make-room-requires c κs = search needs
 
 succeeded-requires : tie.Need-succeeded-requires
 succeeded-requires c κs = search needs
 
 place-requires : tie.Need-place-requires
-place-requires c κs = ready _ _ _ (c .before .before .before .before .before .before .before .before .before .flush-buf .result .state) _ _ (flush-ready _ _ _ (c .before .before .before .before .before .before .before .before .before .before .before .before .before .before .before .before .before .before .args .state) (c .before .before .before .before .before .before .before .before .before .flush-buf .result) _ _ (c .before .before .before .before .before .before .before .before .before .flush-buf .ensures) (c .before .before .before .before .before .before .before .before .before .before .before .before .before .before .before .before .before .before .pre) (sym (c .before .before .before .succeeded .ensures) ∙ c .before .before .if2 .taken))
+place-requires c κs = room-ready _ _ _ (c .before .before .before .before .before .before .before .before .before .before .before .before .before .before .before .before .args .state) _ (c .before .before .before .before .before .before .before .before .before .before .before .before .before .before .before .before .pre) (c .before .before .before .before .before .before .before .before .before .make-room .result) _ _ (c .before .before .before .before .before .before .before .before .before .make-room .ensures) (sym (c .before .before .before .succeeded .ensures) ∙ c .before .before .if1 .taken)
 
 same-length : tie.Need-same-length
 same-length c = search needs
@@ -25,7 +23,8 @@ same-length-2 : tie.Need-same-length-2
 same-length-2 c = search needs
 
 returns : tie.Need-returns
-returns c = cold-done _ _ _ _ _ _ _ _ (flush-made _ _ _ (c .before .before .before .before .before .before .before .before .before .before .before .before .before .before .before .before .before .before .before .before .before .before .before .args .state) (c .before .before .before .before .before .before .before .before .before .before .before .before .before .before .flush-buf .result) _ _ (c .before .before .before .before .before .before .before .before .before .before .before .before .before .before .flush-buf .ensures) (c .before .before .before .before .before .before .before .before .before .before .before .before .before .before .before .before .before .before .before .before .before .before .before .pre)) (sym (c .before .before .before .before .before .before .before .before .succeeded .ensures) ∙ c .before .before .before .before .before .before .before .if2 .taken) (c .before .before .before .before .place .ensures) (c .before .before .before .before .before .before .before .before .before .before .before .before .before .before .before .before .before .if1 .taken)
+unfolding cold
+returns c = then-done _ _ _ _ _ (room-made _ _ _ (c .before .before .before .before .before .before .before .before .before .before .before .before .before .before .before .before .before .before .before .before .before .args .state) _ (c .before .before .before .before .before .before .before .before .before .before .before .before .before .before .before .before .before .before .before .before .before .pre) (c .before .before .before .before .before .before .before .before .before .before .before .before .before .before .make-room .result) _ _ (c .before .before .before .before .before .before .before .before .before .before .before .before .before .before .make-room .ensures)) (sym (c .before .before .before .before .before .before .before .before .succeeded .ensures) ∙ c .before .before .before .before .before .before .before .if1 .taken) (c .before .before .before .before .place .ensures)
 
 same-length-3 : tie.Need-same-length-3
 same-length-3 c = search needs
@@ -34,26 +33,14 @@ same-length-4 : tie.Need-same-length-4
 same-length-4 c = search needs
 
 returns-2 : tie.Need-returns-2
-returns-2 c = cold-stopped _ _ _ _ _ _ _ _ _ _ (flush-made _ _ _ (c .before .before .before .before .before .before .before .before .before .before .before .before .before .before .before .before .args .state) (c .before .before .before .before .before .before .before .flush-buf .result) _ _ (c .before .before .before .before .before .before .before .flush-buf .ensures) (c .before .before .before .before .before .before .before .before .before .before .before .before .before .before .before .before .pre)) (sym (c .before .succeeded .ensures) ∙ c .if2 .left) (c .before .before .before .before .before .before .before .before .before .before .if1 .taken)
-
-place-requires-2 : tie.Need-place-requires-2
-place-requires-2 c κs = ready-room _ _ _ (c .before .before .before .before .before .before .before .before .args .state) _ (c .before .before .before .before .before .before .before .before .pre) (c .before .before .if1 .left)
-
-same-length-5 : tie.Need-same-length-5
-same-length-5 c = search needs
-
-same-length-6 : tie.Need-same-length-6
-same-length-6 c = search needs
-
-returns-3 : tie.Need-returns-3
-returns-3 c = cold-room _ _ _ _ _ _ (c .before .before .before .before .place2 .ensures) (c .before .before .before .before .before .before .before .if1 .left)
+unfolding cold
+returns-2 c = then-stopped _ _ _ _ _ _ _ (room-made _ _ _ (c .before .before .before .before .before .before .before .before .before .before .before .before .before .before .args .state) _ (c .before .before .before .before .before .before .before .before .before .before .before .before .before .before .pre) (c .before .before .before .before .before .before .before .make-room .result) _ _ (c .before .before .before .before .before .before .before .make-room .ensures)) (sym (c .before .succeeded .ensures) ∙ c .if1 .left)
 
 pub write-cold-spec : {M : Type 1} → statement M
 write-cold-spec =
     tie.close
     (tie.spec
-    sub-if1
-    flush-buf-requires
+    make-room-requires
     succeeded-requires
     place-requires
     same-length
@@ -61,8 +48,4 @@ write-cold-spec =
     returns
     same-length-3
     same-length-4
-    returns-2
-    place-requires-2
-    same-length-5
-    same-length-6
-    returns-3)
+    returns-2)
