@@ -3,7 +3,7 @@
 
 /// What a call tells besides its state: document 01's number of the answer, its value, and the
 /// device calls made.
-#[derive(Clone, Copy, Debug, Default)]
+#[derive(Clone, Copy, Debug)]
 pub struct Told {
     pub number: u32,
     pub value: usize,
@@ -73,9 +73,9 @@ macro_rules! writers {
                 medium: &mut [u8],
                 $($slice: &[u8],)?
             ) -> Told {
-                let mut told = Told::default();
+                let (mut value, mut calls) = (0, 0);
                 // SAFETY: each slice is lent whole, with its length.
-                told.number = unsafe {
+                let number = unsafe {
                     $export(
                         &mut writer.held,
                         &mut writer.out,
@@ -87,11 +87,11 @@ macro_rules! writers {
                         medium.as_mut_ptr(),
                         medium.len(),
                         $($slice.as_ptr(), $slice.len(),)?
-                        &mut told.value,
-                        &mut told.calls,
+                        &mut value,
+                        &mut calls,
                     )
                 };
-                told
+                Told { number, value, calls }
             }
         )*
     };
@@ -128,9 +128,9 @@ macro_rules! readers {
                 $($n: $type,)?
                 $($slice: &mut [u8],)?
             ) -> Told {
-                let mut told = Told::default();
+                let (mut value, mut calls) = (0, 0);
                 // SAFETY: each slice is lent whole, with its length.
-                told.number = unsafe {
+                let number = unsafe {
                     $export(
                         &mut reader.pos,
                         &mut reader.filled,
@@ -144,11 +144,11 @@ macro_rules! readers {
                         stock.len(),
                         $($n,)?
                         $($slice.as_mut_ptr(), $slice.len(),)?
-                        &mut told.value,
-                        &mut told.calls,
+                        &mut value,
+                        &mut calls,
                     )
                 };
-                told
+                Told { number, value, calls }
             }
         )*
     };

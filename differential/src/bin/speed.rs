@@ -4,7 +4,7 @@
 
 #![feature(real_code)]
 
-use differential::library::{self, Reader, Writer};
+use differential::library::{self, Reader, Told, Writer};
 use differential::{judge, oracle};
 use real::io::{BufReader, BufWriter, LineWriter, Read, Result, Write};
 use std::hint::black_box;
@@ -77,6 +77,16 @@ impl Read for Card {
     }
 }
 
+/// Bytes that the compiler knows nothing about. What is hidden is one pointer: a slice's two words
+/// would be stored apart and loaded together, which stalls the side that is compiled so.
+fn hidden(bytes: &Vec<u8>) -> &[u8] {
+    black_box::<&Vec<u8>>(bytes)
+}
+
+fn hidden_mut(bytes: &mut Vec<u8>) -> &mut [u8] {
+    black_box::<&mut Vec<u8>>(bytes)
+}
+
 #[inline(never)]
 fn write<W: Write>(writer: &mut W, slice: &[u8]) -> Result<usize> {
     writer.write(slice)
@@ -114,20 +124,20 @@ impl Case {
         BYTES / self.slice.len()
     }
 
-    /// Nanoseconds for one of the Rust's calls.
-    fn rust(&self) -> f64 {
+    /// A round of the Rust's calls.
+    fn rust(&self) -> Box<dyn FnMut() + '_> {
         let card = Card::new();
         match self.side {
             Side::Writer => {
                 let mut writer = BufWriter::with_capacity(CAPACITY, card);
-                self.time(|| {
+                Box::new(move || {
                     self.rust_writes(&mut writer);
                     writer.get_mut().rewind();
                 })
             }
             Side::LineWriter => {
                 let mut writer = LineWriter::with_capacity(CAPACITY, card);
-                self.time(|| {
+                Box::new(move || {
                     self.rust_writes(&mut writer);
                     writer.plain().get_mut().rewind();
                 })
@@ -135,9 +145,9 @@ impl Case {
             Side::Reader => {
                 let mut reader = BufReader::with_capacity(CAPACITY, card);
                 let mut destination = self.slice.clone();
-                self.time(|| {
+                Box::new(move || {
                     for _ in 0..self.calls() {
-                        black_box(read(&mut reader, black_box(&mut destination)).unwrap());
+                        black_box(read(&mut reader, hidden_mut(&mut destination)).unwrap());
                     }
                     reader.get_mut().rewind();
                 })
@@ -147,29 +157,25 @@ impl Case {
 
     fn rust_writes<W: Write>(&self, writer: &mut W) {
         for _ in 0..self.calls() {
-            black_box(write(writer, black_box(&self.slice)).unwrap());
+            black_box(write(writer, hidden(&self.slice)).unwrap());
         }
         flush(writer).unwrap();
     }
 
-    /// Nanoseconds for one of the port's.
-    fn port(&self) -> f64 {
-        let (mut storage, Card { script, mut medium, stock, .. }) =
-            (vec![0; CAPACITY], Card::new());
+    /// A round of the port's.
+    fn port(&self) -> Box<dyn FnMut() + '_> {
         match self.side {
-            Side::Writer => self.port_writes(library::write, &mut storage, &script, &mut medium),
-            Side::LineWriter => {
-                self.port_writes(library::line_write, &mut storage, &script, &mut medium)
-            }
+            Side::Writer => self.port_writes(library::write),
+            Side::LineWriter => self.port_writes(library::line_write),
             Side::Reader => {
-                let mut destination = self.slice.clone();
-                self.time(|| {
+                let Card { script, stock, .. } = Card::new();
+                let (mut storage, mut destination) = (vec![0; CAPACITY], self.slice.clone());
+                Box::new(move || {
                     let mut reader = Reader::default();
                     for _ in 0..self.calls() {
-                        let room = black_box(&mut destination);
+                        let room = hidden_mut(&mut destination);
                         let told = library::read(&mut reader, &mut storage, &script, &stock, room);
-                        assert_eq!(told.number, 0);
-                        black_box(told.value);
+                        black_box(counted(told));
                     }
                 })
             }
@@ -178,38 +184,42 @@ impl Case {
 
     fn port_writes(
         &self,
-        write: impl Fn(&mut Writer, &mut [u8], &[u32], &mut [u8], &[u8]) -> library::Told,
-        storage: &mut [u8],
-        script: &[u32],
-        medium: &mut [u8],
-    ) -> f64 {
-        self.time(|| {
+        write: impl Fn(&mut Writer, &mut [u8], &[u32], &mut [u8], &[u8]) -> Told + 'static,
+    ) -> Box<dyn FnMut() + '_> {
+        let Card { script, mut medium, .. } = Card::new();
+        let mut storage = vec![0; CAPACITY];
+        Box::new(move || {
             let mut writer = Writer::default();
             for _ in 0..self.calls() {
-                let told = write(&mut writer, storage, script, medium, black_box(&self.slice));
-                assert_eq!(told.number, 0);
-                black_box(told.value);
+                let slice = hidden(&self.slice);
+                black_box(counted(write(&mut writer, &mut storage, &script, &mut medium, slice)));
             }
-            assert_eq!(library::flush(&mut writer, storage, script, medium).number, 0);
+            counted(library::flush(&mut writer, &mut storage, &script, &mut medium));
         })
-    }
-
-    fn time(&self, round: impl FnMut()) -> f64 {
-        time(round) / self.calls() as f64
     }
 }
 
-/// Nanoseconds of one run: the best of many tries of a hundredth of a second.
-fn time(mut run: impl FnMut()) -> f64 {
-    let once = || {
-        let (start, mut runs) = (Instant::now(), 0);
-        while start.elapsed() < Duration::from_millis(10) {
-            run();
-            runs += 1;
+/// An ok's count.
+fn counted(told: Told) -> usize {
+    assert!(told.number == 0);
+    told.value
+}
+
+/// Nanoseconds of one run of each: the best of many short tries, which take turns so that whatever
+/// else the machine does meets all of them.
+fn best<const N: usize>(mut runs: [&mut dyn FnMut(); N]) -> [f64; N] {
+    let mut best = [f64::INFINITY; N];
+    for _ in 0..200 {
+        for (run, best) in runs.iter_mut().zip(&mut best) {
+            let (start, mut count) = (Instant::now(), 0);
+            while start.elapsed() < Duration::from_millis(2) {
+                run();
+                count += 1;
+            }
+            *best = best.min(start.elapsed().as_secs_f64() * 1e9 / f64::from(count));
         }
-        start.elapsed().as_secs_f64() * 1e9 / f64::from(runs)
-    };
-    std::iter::repeat_with(once).take(50).fold(f64::INFINITY, f64::min)
+    }
+    best
 }
 
 fn cases() -> [Case; 9] {
@@ -239,13 +249,14 @@ fn main() {
     println!("the Rust: {}", oracle::CODE);
     println!("nanoseconds for a call; capacity {CAPACITY}, medium and stock {BYTES}");
     for case in cases() {
-        let (rust, port) = (case.rust(), case.port());
+        let [rust, port] = best([&mut case.rust(), &mut case.port()]);
+        let (rust, port) = (rust / case.calls() as f64, port / case.calls() as f64);
         println!("{}: Rust {rust:.1}, port {port:.1}, ratio {:.2}", case.name, port / rust);
     }
     let trace = judge::largest().bytes();
     let mut output = [0; 64];
     let judged = library::judge(&trace, &mut output);
     assert_eq!(&output[..judged], b"judge possible\n");
-    let port = time(|| _ = black_box(library::judge(black_box(&trace), &mut output)));
+    let [port] = best([&mut || _ = black_box(library::judge(hidden(&trace), &mut output))]);
     println!("the judge on a largest trace ({} bytes): port {port:.0}", trace.len());
 }
