@@ -11,7 +11,7 @@ fn main() {
     }
     let usual = Path::new(&env::var("CARGO_MANIFEST_DIR").unwrap()).join("../target/staticlib");
     let folder = env::var_os("PORT_LIBRARY").map_or(usual, Into::into);
-    println!("cargo::rerun-if-changed={}", folder.join("libsession.a").display());
+    println!("cargo::rerun-if-changed={}", folder.join("libstackglow.a").display());
     println!("cargo::rustc-link-search=native={}", folder.display());
-    println!("cargo::rustc-link-lib=static=session");
+    println!("cargo::rustc-link-lib=static=stackglow");
 }

@@ -5,7 +5,7 @@ use crate::answer::Answer;
 use crate::device::Device;
 use crate::limits;
 use crate::oracle::{RealReader, RealWriter};
-use crate::request::{put, put_bytes, put_script};
+use crate::request::{Parts, put, put_bytes, put_script};
 use crate::session::Call;
 use real::io::{Buffer, LineWriter, flush_buf, storage, writer_over};
 
@@ -30,8 +30,7 @@ pub const BUFFER_UNCONSUME: u32 = 6;
 pub const BUFFER_BACKSHIFT: u32 = 7;
 pub const BUFFER_READ_MORE: u32 = 8;
 pub const BUFFER_FILL: u32 = 9;
-pub const READER_CALLS: [u32; 7] =
-    [READ, PEEK, CONSUME, SEEK, FILL, BUFFER_CONSUME, BUFFER_FILL];
+pub const READER_CALLS: [u32; 7] = [READ, PEEK, CONSUME, SEEK, FILL, BUFFER_CONSUME, BUFFER_FILL];
 
 #[derive(Clone, Debug)]
 pub struct WriterCall {
@@ -79,7 +78,7 @@ fn refusal(
     }
 }
 
-pub fn put_answer(to: &mut Vec<u8>, answer: Answer) {
+fn put_answer(to: &mut Vec<u8>, answer: Answer) {
     let (number, value) = match answer {
         Answer::Count(n) => (0, n as u32),
         Answer::Done => (1, 0),
@@ -107,6 +106,32 @@ impl WriterCall {
         to
     }
 
+    /// A request read back.
+    pub fn read(mut parts: Parts) -> Self {
+        Self {
+            call: parts.number(),
+            storage: parts.bytes(),
+            held: parts.count(),
+            script: parts.script(),
+            used: parts.count(),
+            medium: parts.bytes(),
+            out: parts.count(),
+            slice: parts.bytes(),
+        }
+    }
+
+    /// The answer to it, once the call has left its state and bytes here.
+    pub fn answer(&self, answer: Answer, calls: usize) -> Vec<u8> {
+        let mut to = Vec::new();
+        put_answer(&mut to, answer);
+        for number in [calls, self.held, self.out, self.used] {
+            put(&mut to, number as u32);
+        }
+        to.extend_from_slice(&self.storage);
+        to.extend_from_slice(&self.medium);
+        to
+    }
+
     fn refusal(&self) -> Option<u8> {
         let sliced = !matches!(self.call, FLUSH | FLUSH_BUF);
         refusal(
@@ -130,15 +155,7 @@ impl WriterCall {
             Some(number) => (Answer::Refused(number), 0),
             None => after.run(),
         };
-        let mut to = Vec::new();
-        put_answer(&mut to, answer);
-        put(&mut to, calls as u32);
-        put(&mut to, after.held as u32);
-        put(&mut to, after.out as u32);
-        put(&mut to, after.used as u32);
-        to.extend_from_slice(&after.storage);
-        to.extend_from_slice(&after.medium);
-        (to, self.used + calls > after.used)
+        (after.answer(answer, calls), self.used + calls > after.used)
     }
 
     fn run(&mut self) -> (Answer, usize) {
@@ -188,6 +205,35 @@ impl ReaderCall {
         to
     }
 
+    /// A request read back.
+    pub fn read(mut parts: Parts) -> Self {
+        Self {
+            call: parts.number(),
+            storage: parts.bytes(),
+            pos: parts.count(),
+            filled: parts.count(),
+            script: parts.script(),
+            used: parts.count(),
+            stock: parts.bytes(),
+            taken: parts.count(),
+            size: parts.size(),
+            destination: parts.bytes(),
+        }
+    }
+
+    /// The answer to it, once the call has left its state and bytes here.
+    pub fn answer(&self, answer: Answer, calls: usize, shown: &[u8]) -> Vec<u8> {
+        let mut to = Vec::new();
+        put_answer(&mut to, answer);
+        for number in [calls, self.pos, self.filled, self.used, self.taken] {
+            put(&mut to, number as u32);
+        }
+        to.extend_from_slice(&self.storage);
+        to.extend_from_slice(&self.destination);
+        to.extend_from_slice(shown);
+        to
+    }
+
     fn refusal(&self) -> Option<u8> {
         let own = match self.call {
             READ => (self.destination.len() > limits::BYTES).then_some(2),
@@ -216,17 +262,7 @@ impl ReaderCall {
             None if self.call >= BUFFER_CONSUME => after.run_buffer(),
             None => after.run_reader(),
         };
-        let mut to = Vec::new();
-        put_answer(&mut to, answer);
-        put(&mut to, calls as u32);
-        put(&mut to, after.pos as u32);
-        put(&mut to, after.filled as u32);
-        put(&mut to, after.used as u32);
-        put(&mut to, after.taken as u32);
-        to.extend_from_slice(&after.storage);
-        to.extend_from_slice(&after.destination);
-        to.extend_from_slice(&shown);
-        (to, self.used + calls > after.used)
+        (after.answer(answer, calls, &shown), self.used + calls > after.used)
     }
 
     /// `pos + amt` overflows in the Rust; no more than is filled can matter.

@@ -14,6 +14,8 @@ pub mod large;
 #[cfg(feature = "linked")]
 pub mod library;
 pub mod limits;
+#[cfg(feature = "linked")]
+pub mod linked;
 pub mod mirror;
 pub mod numbers;
 pub mod oracle;

@@ -3,12 +3,12 @@
 //! driver's session reader, and is no evidence about the port.
 
 use crate::answer::Answer;
-use crate::direct;
+use crate::direct::{self, ReaderCall, WriterCall};
 use crate::hex;
 use crate::limits;
 use crate::numbers::Fault;
 use crate::port::Port;
-use crate::request::{Parts, put};
+use crate::request::Parts;
 use crate::session::{self, Call, Input, Kind, Session};
 use crate::trace::{self, Claim, Trace, Traced};
 use std::io::Write;
@@ -548,20 +548,24 @@ fn possible(slip: Slip, trace: &Trace) -> bool {
     answered.starts_with(&trace.card) && missing.is_some_and(|n| n <= capacity && reached[n])
 }
 
-fn writer_call(slip: Slip, mut parts: Parts) -> Vec<u8> {
-    let call = parts.number();
-    let storage = parts.bytes().to_vec();
-    let filled = parts.count();
-    let script = parts.script();
-    let used = parts.count();
-    let device = parts.bytes().to_vec();
-    let moved = parts.count();
-    let slice = parts.bytes();
-    let mut state = State { slip, storage, pos: 0, filled, script, used, calls: 0, device, moved };
-    let sliced = !matches!(call, direct::FLUSH | direct::FLUSH_BUF);
+fn writer_call(slip: Slip, parts: Parts) -> Vec<u8> {
+    let asked = WriterCall::read(parts);
+    let mut state = State {
+        slip,
+        storage: asked.storage,
+        pos: 0,
+        filled: asked.held,
+        script: asked.script,
+        used: asked.used,
+        calls: 0,
+        device: asked.medium,
+        moved: asked.out,
+    };
+    let slice = &asked.slice;
+    let sliced = !matches!(asked.call, direct::FLUSH | direct::FLUSH_BUF);
     let answer = match state.unfit((sliced && slice.len() > limits::BYTES).then_some(2)) {
         Some(number) => Answer::Refused(number),
-        None => match call {
+        None => match asked.call {
             direct::WRITE => counted(state.write(slice)),
             direct::WRITE_ALL => done(state.write_all(slice)),
             direct::FLUSH => done(state.flush()),
@@ -570,39 +574,38 @@ fn writer_call(slip: Slip, mut parts: Parts) -> Vec<u8> {
             _ => done(state.line_write_all(slice)),
         },
     };
-    let mut to = vec![];
-    direct::put_answer(&mut to, answer);
-    for number in [state.calls, state.filled, state.moved, state.used] {
-        put(&mut to, number as u32);
-    }
-    [to, state.storage, state.device].concat()
+    let State { storage, filled, script, used, calls, device, moved, .. } = state;
+    let after =
+        WriterCall { storage, held: filled, script, used, medium: device, out: moved, ..asked };
+    after.answer(answer, calls)
 }
 
-fn reader_call(slip: Slip, mut parts: Parts) -> Vec<u8> {
-    let call = parts.number();
-    let storage = parts.bytes().to_vec();
-    let pos = parts.count();
-    let filled = parts.count();
-    let script = parts.script();
-    let used = parts.count();
-    let device = parts.bytes().to_vec();
-    let moved = parts.count();
-    let size = u64::from(parts.number()) | u64::from(parts.number()) << 32;
-    let n = usize::try_from(size).unwrap();
-    let mut destination = parts.bytes().to_vec();
-    let mut state = State { slip, storage, pos, filled, script, used, calls: 0, device, moved };
+fn reader_call(slip: Slip, parts: Parts) -> Vec<u8> {
+    let mut asked = ReaderCall::read(parts);
+    let mut state = State {
+        slip,
+        storage: asked.storage,
+        pos: asked.pos,
+        filled: asked.filled,
+        script: asked.script,
+        used: asked.used,
+        calls: 0,
+        device: asked.stock,
+        moved: asked.taken,
+    };
+    let n = asked.size as usize;
     let mut shown = vec![];
-    let own = (call == direct::READ && destination.len() > limits::BYTES).then_some(2);
-    let answer = match state.unfit(own) {
+    let long = asked.call == direct::READ && asked.destination.len() > limits::BYTES;
+    let answer = match state.unfit(long.then_some(2)) {
         Some(number) => Answer::Refused(number),
-        None => match call {
-            direct::READ => counted(state.read(&mut destination)),
+        None => match asked.call {
+            direct::READ => counted(state.read(&mut asked.destination)),
             direct::PEEK => {
                 let answer = counted(state.peek(n));
                 shown = state.buffered()[..answer.count()].to_vec();
                 answer
             }
-            direct::SEEK => done(state.seek(size as i64)),
+            direct::SEEK => done(state.seek(asked.size)),
             direct::FILL | direct::BUFFER_FILL => match state.fill() {
                 Ok(()) => {
                     shown = state.buffered();
@@ -625,17 +628,19 @@ fn reader_call(slip: Slip, mut parts: Parts) -> Vec<u8> {
             }
         },
     };
-    let mut to = vec![];
-    direct::put_answer(&mut to, answer);
-    for number in [state.calls, state.pos, state.filled, state.used, state.moved] {
-        put(&mut to, number as u32);
-    }
-    [to, state.storage, destination, shown].concat()
+    let State { storage, pos, filled, script, used, calls, device, moved, .. } = state;
+    let after =
+        ReaderCall { storage, pos, filled, script, used, stock: device, taken: moved, ..asked };
+    after.answer(answer, calls, &shown)
 }
 
 pub struct Mirror(pub Slip);
 
 impl Port for Mirror {
+    fn name(&self) -> String {
+        "the driver's stand-in for it".into()
+    }
+
     fn answers(&mut self, requests: &[Vec<u8>]) -> Vec<Vec<u8>> {
         let answer = |request: &Vec<u8>| match request.split_first().unwrap() {
             (b's', session) => lines(self.0, session),

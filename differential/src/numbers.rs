@@ -4,6 +4,14 @@
 #[derive(Clone, Copy, Debug, PartialEq, Eq)]
 pub struct Fault(pub usize);
 
+#[cfg(test)]
+impl Fault {
+    /// The place of the fault that a check found.
+    pub fn place<T>(checked: Result<T, Self>) -> Option<usize> {
+        checked.err().map(|Fault(place)| place)
+    }
+}
+
 pub struct Reader<'a> {
     bytes: &'a [u8],
     at: usize,

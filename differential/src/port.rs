@@ -1,9 +1,12 @@
-//! The port: linked into the driver, or a program of it at the other end of two pipes.
+//! The port: linked into the driver (`linked.rs`), or a program of it at the other end of two pipes.
 
 use std::io::{self, BufReader, Read, Write};
 use std::process::{Child, ChildStdin, ChildStdout, Command, Stdio};
 
 pub trait Port {
+    /// How it is reached.
+    fn name(&self) -> String;
+
     /// The answers to these requests (see `request.rs`), in order; fewer where the port stopped.
     fn answers(&mut self, requests: &[Vec<u8>]) -> Vec<Vec<u8>>;
 }
@@ -38,6 +41,10 @@ impl Piped {
 }
 
 impl Port for Piped {
+    fn name(&self) -> String {
+        "its program, over pipes".into()
+    }
+
     fn answers(&mut self, requests: &[Vec<u8>]) -> Vec<Vec<u8>> {
         let mut frames = Vec::new();
         for request in requests {
@@ -65,42 +72,5 @@ impl Drop for Piped {
         // The end of its input ends the program.
         self.requests = None;
         let _ = self.child.wait();
-    }
-}
-
-/// The port's static library.
-#[cfg(feature = "linked")]
-pub struct Linked {
-    output: Vec<u8>,
-}
-
-#[cfg(feature = "linked")]
-impl Linked {
-    pub fn new() -> Self {
-        // The longest lines are 1,024 of `peek`, each with 1,024 bytes in hex: 2 MiB and a bit.
-        Self { output: vec![0; 4 << 20] }
-    }
-
-    fn answer(&mut self, request: &[u8]) -> Vec<u8> {
-        use crate::library::{stackglow_direct, stackglow_session};
-        let output = &mut self.output;
-        let (to, room) = (output.as_mut_ptr(), output.len());
-        // SAFETY: both slices are lent whole, with their lengths.
-        let length = unsafe {
-            match request.split_first() {
-                Some((b's', session)) => {
-                    stackglow_session(session.as_ptr(), session.len(), to, room)
-                }
-                _ => stackglow_direct(request.as_ptr(), request.len(), to, room),
-            }
-        };
-        output[..length].to_vec()
-    }
-}
-
-#[cfg(feature = "linked")]
-impl Port for Linked {
-    fn answers(&mut self, requests: &[Vec<u8>]) -> Vec<Vec<u8>> {
-        requests.iter().map(|request| self.answer(request)).collect()
     }
 }

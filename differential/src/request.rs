@@ -37,10 +37,10 @@ pub fn put_script(to: &mut Vec<u8>, script: &[u32]) {
     script.iter().for_each(|&reply| put(to, reply));
 }
 
-/// Reads a request back: only the stand-in for the port needs it.
+/// What is left of a request that is read back.
 pub struct Parts<'a>(pub &'a [u8]);
 
-impl<'a> Parts<'a> {
+impl Parts<'_> {
     pub fn number(&mut self) -> u32 {
         let (number, rest) = self.0.split_first_chunk().unwrap();
         self.0 = rest;
@@ -51,11 +51,17 @@ impl<'a> Parts<'a> {
         self.number() as usize
     }
 
-    pub fn bytes(&mut self) -> &'a [u8] {
+    pub fn size(&mut self) -> i64 {
+        let (size, rest) = self.0.split_first_chunk().unwrap();
+        self.0 = rest;
+        i64::from_le_bytes(*size)
+    }
+
+    pub fn bytes(&mut self) -> Vec<u8> {
         let count = self.count();
         let (bytes, rest) = self.0.split_at(count);
         self.0 = rest;
-        bytes
+        bytes.to_vec()
     }
 
     pub fn script(&mut self) -> Vec<u32> {

@@ -138,12 +138,9 @@ impl Call {
 mod tests {
     use super::*;
 
-    fn place(bytes: &[u8]) -> Option<usize> {
-        check(bytes).err().map(|Fault(place)| place)
-    }
-
     #[test]
     fn faults() {
+        let place = |bytes: &[u8]| Fault::place(check(bytes));
         assert_eq!(place(&[]), Some(0));
         assert_eq!(place(&[4]), Some(0));
         assert_eq!(place(&[0x80, 0x80, 0x80, 0x80, 0x80]), Some(0));

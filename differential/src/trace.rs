@@ -115,12 +115,9 @@ impl Claim {
 mod tests {
     use super::*;
 
-    fn place(bytes: &[u8]) -> Option<usize> {
-        check(bytes).err().map(|Fault(place)| place)
-    }
-
     #[test]
     fn faults() {
+        let place = |bytes: &[u8]| Fault::place(check(bytes));
         assert_eq!(place(&[]), Some(0));
         assert_eq!(place(&[4]), Some(1));
         assert_eq!(place(&[4, 0, 0]), None);
@@ -135,6 +132,7 @@ mod tests {
 
     #[test]
     fn total() {
+        let place = |bytes: &[u8]| Fault::place(check(bytes));
         let write = |n: usize| Traced::Write(vec![7; n], Claim::Zero);
         let trace = |calls| Trace { capacity: 1, calls, card: vec![] }.bytes();
         assert_eq!(place(&trace(vec![write(10_000), write(6_384), write(0)])), None);

@@ -45,19 +45,30 @@ pub drop-put : (d : List ℕ) (at : ℕ) (s : List ℕ) (n : ℕ) → at ≤ len
 unfolding put
 drop-put d at s n hd hs = drop-paste d at s n hd hs
 
--- a second paste where the first ended, of what comes next in s, makes one paste
+-- a second paste of what comes next in s, that begins no later than the first ended and ends no earlier, makes one paste
+pub put-over : (d : List ℕ) (at : ℕ) (s : List ℕ) (m k w : ℕ) → k ≤ m → m ≤ k + w → at + (k + w) ≤ length d → k + w ≤ length s → put (put d at s m) (at + k) (drop k s) w ≡ put d at s (k + w)
+put-over d at s m k w hk hm hd hs =
+    let front : take (at + k) (put d at s m) ≡ take at d ++ take k s =
+    sym (take-take (at + k) (at + m) (put d at s m) (omega arith))
+    ∙ ap (λ (l : List ℕ). take (at + k) l) (take-put d at s m (omega arith) (omega arith))
+    ∙ ap (λ (j : ℕ). take (j + k) (take at d ++ take m s)) (sym (length-take-le at d (omega arith)))
+    ∙ take-append-add (take at d) (take m s) k
+    ∙ ap (λ (l : List ℕ). take at d ++ l) (take-take k m s hk) in
+    let far : at + m + (k + w - m) ≡ at + k + w = omega arith in
+    let back : drop (at + k + w) (put d at s m) ≡ drop (at + (k + w)) d =
+    ap (λ (j : ℕ). drop j (put d at s m)) (sym far)
+    ∙ sym (drop-drop (k + w - m) (at + m) (put d at s m))
+    ∙ ap (λ (l : List ℕ). drop (k + w - m) l) (drop-put d at s m (omega arith) (omega arith))
+    ∙ drop-drop (k + w - m) (at + m) d
+    ∙ ap (λ (j : ℕ). drop j d) (far ∙ add-assoc at k w) in
+    opened (put d at s m) (at + k) (drop k s) w
+    ∙ ap₂ (λ (f b : List ℕ). f ++ take w (drop k s) ++ b) front back
+    ∙ ap (λ (l : List ℕ). l ++ drop (at + (k + w)) d) (append-assoc (take at d) (take k s) (take w (drop k s)) ∙ ap (λ (l : List ℕ). take at d ++ l) (sym (take-add k w s)))
+    ∙ sym (opened d at s (k + w))
+
+-- the same where the first ended
 pub put-put : (d : List ℕ) (at : ℕ) (s : List ℕ) (m n : ℕ) → at + (m + n) ≤ length d → m + n ≤ length s → put (put d at s m) (at + m) (drop m s) n ≡ put d at s (m + n)
-put-put d at s m n hd hs =
-    let front = take-put d at s m (omega arith) (omega arith) in
-    let back : drop (at + m + n) (put d at s m) ≡ drop (at + (m + n)) d =
-    sym (drop-drop n (at + m) (put d at s m))
-    ∙ ap (λ (l : List ℕ). drop n l) (drop-put d at s m (omega arith) (omega arith))
-    ∙ drop-drop n (at + m) d
-    ∙ ap (λ (k : ℕ). drop k d) (add-assoc at m n) in
-    opened (put d at s m) (at + m) (drop m s) n
-    ∙ ap₂ (λ (f b : List ℕ). f ++ take n (drop m s) ++ b) front back
-    ∙ ap (λ (l : List ℕ). l ++ drop (at + (m + n)) d) (append-assoc (take at d) (take m s) (take n (drop m s)) ∙ ap (λ (l : List ℕ). take at d ++ l) (sym (take-add m n s)))
-    ∙ sym (opened d at s (m + n))
+put-put d at s m n hd hs = put-over d at s m m n (omega arith) (omega arith) hd hs
 
 -- a byte past the pasted ones
 pub getD-put-past : (d : List ℕ) (at : ℕ) (s : List ℕ) (n j : ℕ) → at + n ≤ length d → n ≤ length s → at + n ≤ j → getD (put d at s n) j 0 ≡ getD d j 0
@@ -79,7 +90,11 @@ shift-more d x from i e h =
     ∙ ap (λ (k : ℕ). set (put d 0 (drop from d) i) k (getD (drop from d) i 0)) (sym (zero-add i))
     ∙ put-more d 0 (drop from d) i (omega arith) long
 
--- a paste from a prefix of s that is long enough
-pub put-take : (d : List ℕ) (at : ℕ) (s : List ℕ) (h n : ℕ) → n ≤ h → put d at (take h s) n ≡ put d at s n
+-- a paste from bytes of which the first n are the same
+pub put-same : (d : List ℕ) (at : ℕ) (s t : List ℕ) (n : ℕ) → take n s ≡ take n t → put d at s n ≡ put d at t n
 unfolding put
-put-take d at s h n p = ap (λ (l : List ℕ). take at d ++ l ++ drop (at + n) d) (take-take n h s p)
+put-same d at s t n e = ap (λ (l : List ℕ). take at d ++ l ++ drop (at + n) d) e
+
+-- as from a prefix of s that is long enough
+pub put-take : (d : List ℕ) (at : ℕ) (s : List ℕ) (h n : ℕ) → n ≤ h → put d at (take h s) n ≡ put d at s n
+put-take d at s h n p = put-same d at (take h s) s n (take-take n h s p)

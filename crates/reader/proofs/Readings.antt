@@ -9,7 +9,7 @@ use lib.ListN.{length, take, drop, length-drop}
 use borrow.Author.Tests.{le-leb, lt-leb, eq-eqb, ne-eqb}
 use Rattle.laws.specs.Put.{put}
 use Rattle.laws.proofs.Parts.{rest}
-use Rattle.card.specs.Answers.{Said}
+use Rattle.card.specs.Answers.{Said, ok}
 use Rattle.card.specs.Device.{exchange, atMost, moves}
 use Rattle.card.specs.Limits.{refusalOf, lengthRefusal}
 use Rattle.card.specs.declared.Answer.the-variants.{Refused}
@@ -19,7 +19,7 @@ use Rattle.card.proofs.Replies.{moves-most}
 use Rattle.reader.specs.declared.State.{State}
 use Rattle.reader.specs.World.{Fetched, Reading, world, reading}
 use Rattle.reader.specs.Buffer.{count, consume, fillBuf}
-use Rattle.reader.specs.Reader.{handed, refusal, direct, copied, readUnrefused, read}
+use Rattle.reader.specs.Reader.{handed, refusal, direct, copied, buffered, readUnrefused, read}
 use Rattle.reader.proofs.Buffers.{Fills, moves-cut}
 use Rattle.reader.proofs.Refusals.{fit}
 
@@ -50,6 +50,44 @@ copied-got script stock d x capacity f g r n a st ef k er en ex ea es =
     least : (n a b k : ℕ) → n ≡ k → k ≤ a → k ≤ b → min n (min a (b - 0)) ≡ k
     least n a b k e h g = omega arith
 
+-- of what is buffered
+pub buffered-got : (d x s : List ℕ) (st : State) (n : ℕ) → st .pos ≤ st .filled → st .filled ≤ length s → n ≡ min (st .filled - st .pos) (length d) → x ≡ put d 0 (take (length s - st .pos) (drop (st .pos) s)) (min n (min (length (take (length s - st .pos) (drop (st .pos) s))) (length d - 0))) → record { destination = x; called = record { answer = ok n; calls = 0; world = world s (record { pos = st .pos + n; filled = st .filled; taken = st .taken; used = st .used }) } } ≡ copied d (buffered (world s st))
+unfolding copied atMost
+buffered-got d x s st n h k en ex =
+    let part : List ℕ = take (length s - st .pos) (drop (st .pos) s) in
+    let whole : part ≡ drop (st .pos) s = rest (st .pos) s in
+    let long : length part ≡ length s - st .pos = ap length whole ∙ length-drop (st .pos) s in
+    let m : min n (min (length part) (length d - 0)) ≡ n = all n (length part) (length d) (few _ _ _ _ _ en h k long) (fits _ _ _ en) in
+    let dest : x ≡ put d 0 (drop (st .pos) s) n = ex ∙ ap₂ (λ (l : List ℕ) (j : ℕ). put d 0 l j) whole m in
+    let moved : n ≡ min n (st .filled - st .pos) = again _ _ _ en in
+    λ i.
+    record {
+      destination = (dest ∙ ap (λ (j : ℕ). put d 0 (drop (st .pos) s) j) en) i;
+      called =
+          record {
+            answer = ok (en i);
+            calls = 0;
+            world = world s (record { pos = st .pos + (moved ∙ ap (λ (j : ℕ). min j (st .filled - st .pos)) en) i; filled = st .filled; taken = st .taken; used = st .used });
+          };
+    }
+  where
+    all : (n a b : ℕ) → n ≤ a → n ≤ b → min n (min a (b - 0)) ≡ n
+    all n a b h g = omega arith
+
+    few : (n pos filled b a : ℕ) {l : ℕ} → n ≡ min (filled - pos) b → pos ≤ filled → filled ≤ l → a ≡ l - pos → n ≤ a
+    few n pos filled b a e h k q = omega arith
+
+    fits : (n a b : ℕ) → n ≡ min a b → n ≤ b
+    fits n a b e = omega arith
+
+    again : (n a b : ℕ) → n ≡ min a b → n ≡ min n a
+    again n a b e = omega arith
+
+-- with bytes buffered a fill only counts them
+pub held-fill : (left stock s : List ℕ) (st : State) → (st .pos ≡ st .filled → ⊥) → fillBuf left stock (world s st) ≡ buffered (world s st)
+unfolding fillBuf
+held-fill left stock s st h = rw (ne-eqb _ _ h)
+
 held-way : (script stock d s : List ℕ) (st : State) → (st .pos ≡ st .filled → ⊥) → readUnrefused script stock d (world s st) ≡ copied d (fillBuf (drop (st .used) script) stock (world s st))
 unfolding readUnrefused
 held-way script stock d s st h = rw (ne-eqb _ _ h)
@@ -76,8 +114,10 @@ module _ (script stock d s : List ℕ) (st : State) (own number : ℕ) (e : numb
   passes z = rw (← o, ← e, eq-eqb _ _ z)
 
   -- bytes are buffered
-  pub read-held : number ≡ 0 → (g : Reading) → st .pos < st .filled → g ≡ copied d (fillBuf (drop (st .used) script) stock (world s st)) → g ≡ read script stock d (world s st)
-  read-held z g h eg = eg ∙ sym (passes z ∙ held-way script stock d s st (λ q. omega arith))
+  pub read-held : number ≡ 0 → (g : Reading) → st .pos < st .filled → g ≡ copied d (buffered (world s st)) → g ≡ read script stock d (world s st)
+  read-held z g h eg =
+      let apart : st .pos ≡ st .filled → ⊥ = λ q. omega arith in
+      eg ∙ sym (passes z ∙ held-way script stock d s st apart ∙ ap (λ (f : Fetched). copied d f) (held-fill (drop (st .used) script) stock s st apart))
 
   -- the destination is smaller than the storage
   pub read-small : number ≡ 0 → (g : Reading) → length d < length s → g ≡ copied d (fillBuf (drop (st .used) script) stock (world s st)) → g ≡ read script stock d (world s st)

@@ -82,6 +82,10 @@ copied destination f =
           };
     }
 
+-- what a fill hands up where bytes are buffered: their count, and nothing changes
+abbrev pub buffered : World → Fetched
+buffered w = record { reply = Accept (count (w .state)); calls = 0; world = w }
+
 -- `read` goes straight to the device when pos = filled and the destination is at least the capacity. Otherwise it
 -- fills, then copies
 unfoldable pub readUnrefused : List ℕ → List ℕ → List ℕ → World → Reading

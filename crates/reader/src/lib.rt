@@ -18,7 +18,7 @@ ghost use Rattle.card.specs.Device.{atMost};
 ghost use Rattle.card.specs.Limits.{refusalOf};
 ghost use Rattle.reader.specs.World.{Fit, world, fetched, called, reading};
 ghost use Rattle.reader.specs.Buffer.{new, shown, count, readMore};
-ghost use Rattle.reader.specs.Reader.{handed, handedUp, seekRefusal, sought, peekRefusal, shiftedBack, peekLoop, direct, copied, fillBuf, consume, seekRelative, peek, read};
+ghost use Rattle.reader.specs.Reader.{handed, handedUp, buffered, seekRefusal, sought, peekRefusal, shiftedBack, peekLoop, direct, copied, fillBuf, consume, seekRelative, peek, read};
 ghost use Rattle.reader.specs.Buffer as Buffer;
 
 // What a reader knows between calls: its place in the storage and how much of that is filled,
@@ -200,6 +200,27 @@ fn read_copied(
     }
 }
 
+// What is buffered, as much of it as finds room. The usual way through `read`, so it has no part in
+// the calls that may meet the device.
+fn read_buffered(storage: &[u8], state: State, destination: &mut [u8]) -> Answered
+    requires { ⌜ (state .pos ≤ state .filled) × (state .filled ≤ length (now storage)) ⌝ }
+    ensures { λ r. ⌜ reading r (now (storage .entry)) (now (destination .exit)) ≡ copied (now (destination .entry)) (buffered (world (now (storage .entry)) state)) ⌝ }
+{
+    let pos = state.pos;
+    let count = bytes::least(state.filled - pos, destination.len());
+    bytes::copy(destination, 0, &storage[pos..], count);
+    Answered {
+        answer: Answer::Ok(count),
+        calls: 0,
+        state: State {
+            pos: pos + count,
+            filled: state.filled,
+            taken: state.taken,
+            used: state.used,
+        },
+    }
+}
+
 pub fn read(
     storage: &mut [u8],
     script: &[u32],
@@ -219,7 +240,7 @@ pub fn read(
         };
     }
     if state.pos < state.filled {
-        return read_copied(storage, script, stock, state, destination);
+        return read_buffered(storage, state, destination);
     }
     if destination.len() < storage.len() {
         return read_copied(storage, script, stock, state, destination);

@@ -33,7 +33,9 @@ fn main() -> ExitCode {
             "--deep" => plan.deep = true,
             "--mirror" => return compare(&mut Mirror(Slip::None), &plan),
             "--serve" => return serve(),
-            "--sample" => return sample(&words.next().expect("a file"), &words.next().expect("a file")),
+            "--sample" => {
+                return sample(&words.next().expect("a file"), &words.next().expect("a file"));
+            }
             "--self-test" => return self_test(plan.seed),
             "--piped" => {
                 let command: Vec<String> = words.collect();
@@ -41,7 +43,7 @@ fn main() -> ExitCode {
                 return compare(&mut port, &plan);
             }
             #[cfg(feature = "linked")]
-            "--linked" => return compare(&mut differential::port::Linked::new(), &plan),
+            "--linked" => return compare(&mut differential::linked::Linked::new(), &plan),
             _ => break,
         }
     }
@@ -50,7 +52,7 @@ fn main() -> ExitCode {
 }
 
 fn compare(port: &mut dyn Port, plan: &Plan) -> ExitCode {
-    println!("the Rust: {}", oracle::CODE);
+    println!("the port: {}; the Rust: {}", port.name(), oracle::CODE);
     println!("seed {}, {} random sessions", plan.seed, plan.sessions);
     let start = Instant::now();
     let mut comparison = Comparison::new(port, false);

@@ -1,51 +1,47 @@
 //! How long the calls take, the Rust and the port side by side on the same scripted device. It is
-//! no test: it compares only times. The port is timed where it is linked, on x86-64.
+//! no test: it compares only times. Each call of either side goes through one function that is not
+//! inlined: the port's is a C call, so the Rust gets a function of its own.
 
 #![feature(real_code)]
 
-use differential::oracle;
+use differential::library::{self, Reader, Told, Writer};
+use differential::{judge, oracle};
 use real::io::{BufReader, BufWriter, LineWriter, Read, Result, Write};
 use std::hint::black_box;
 use std::time::{Duration, Instant};
 
 const CAPACITY: usize = 1_024;
 const BYTES: usize = 16_384;
+const REPLIES: usize = 4_096;
 
-/// All that a case works on, lent to both sides.
-#[cfg_attr(not(feature = "linked"), allow(dead_code))]
-struct Lent {
-    storage: Vec<u8>,
+/// The scripted device, with no more state than the port's.
+struct Card {
     script: Vec<u32>,
-    medium: Vec<u8>,
-    stock: Vec<u8>,
-    slice: Vec<u8>,
-    destination: Vec<u8>,
-}
-
-impl Lent {
-    fn new(slice: Vec<u8>) -> Self {
-        Self {
-            storage: vec![0; CAPACITY],
-            script: vec![65_535; 4_096],
-            medium: vec![0; BYTES],
-            stock: vec![b's'; BYTES],
-            slice,
-            destination: vec![0; 16],
-        }
-    }
-}
-
-/// The scripted device over lent bytes, with no more state than the port's.
-struct Card<'a> {
-    script: &'a [u32],
     used: usize,
-    medium: &'a mut [u8],
+    medium: Vec<u8>,
     out: usize,
-    stock: &'a [u8],
+    stock: Vec<u8>,
     taken: usize,
 }
 
-impl Card<'_> {
+impl Card {
+    /// One that accepts all that it is offered.
+    fn new() -> Self {
+        Self {
+            script: vec![65_535; REPLIES],
+            used: 0,
+            medium: vec![0; BYTES],
+            out: 0,
+            stock: vec![b's'; BYTES],
+            taken: 0,
+        }
+    }
+
+    /// The same from the start.
+    fn rewind(&mut self) {
+        (self.used, self.out, self.taken) = (0, 0, 0);
+    }
+
     fn accepted(&mut self) -> Result<usize> {
         let Some(&reply) = self.script.get(self.used) else {
             return Err(std::io::ErrorKind::Other.into());
@@ -59,7 +55,7 @@ impl Card<'_> {
     }
 }
 
-impl Write for Card<'_> {
+impl Write for Card {
     fn write(&mut self, offered: &[u8]) -> Result<usize> {
         let n = self.accepted()?.min(offered.len()).min(self.medium.len() - self.out);
         self.medium[self.out..][..n].copy_from_slice(&offered[..n]);
@@ -72,7 +68,7 @@ impl Write for Card<'_> {
     }
 }
 
-impl Read for Card<'_> {
+impl Read for Card {
     fn read(&mut self, room: &mut [u8]) -> Result<usize> {
         let n = self.accepted()?.min(room.len()).min(self.stock.len() - self.taken);
         room[..n].copy_from_slice(&self.stock[self.taken..][..n]);
@@ -81,207 +77,186 @@ impl Read for Card<'_> {
     }
 }
 
-/// One round makes this many calls, from a new state to a full medium or an empty stock.
+/// Bytes that the compiler knows nothing about. What is hidden is one pointer: a slice's two words
+/// would be stored apart and loaded together, which stalls the side that is compiled so.
+fn hidden(bytes: &Vec<u8>) -> &[u8] {
+    black_box::<&Vec<u8>>(bytes)
+}
+
+fn hidden_mut(bytes: &mut Vec<u8>) -> &mut [u8] {
+    black_box::<&mut Vec<u8>>(bytes)
+}
+
+#[inline(never)]
+fn write<W: Write>(writer: &mut W, slice: &[u8]) -> Result<usize> {
+    writer.write(slice)
+}
+
+#[inline(never)]
+fn flush<W: Write>(writer: &mut W) -> Result<()> {
+    writer.flush()
+}
+
+#[inline(never)]
+fn read<R: Read>(reader: &mut R, destination: &mut [u8]) -> Result<usize> {
+    reader.read(destination)
+}
+
+/// What a case calls.
+#[derive(Clone, Copy)]
+enum Side {
+    Writer,
+    LineWriter,
+    Reader,
+}
+
+/// One round makes as many calls as fill the medium or empty the stock, and flushes a writer. Both
+/// sides start every round on the buffer of the round before.
 struct Case {
     name: &'static str,
-    slice: fn() -> Vec<u8>,
-    calls: usize,
-    rust: fn(&mut Lent, usize),
-    port: fn(&mut Lent, usize),
+    side: Side,
+    /// What is written; a read has room for as much.
+    slice: Vec<u8>,
 }
 
-const CASES: [Case; 5] = [
-    Case {
-        name: "writes of 16 bytes",
-        slice: || vec![b'w'; 16],
-        calls: BYTES / 16,
-        rust: rust_writes,
-        port: port::writes,
-    },
-    Case {
-        name: "large writes (4,096)",
-        slice: || vec![b'w'; 4_096],
-        calls: BYTES / 4_096,
-        rust: rust_writes,
-        port: port::writes,
-    },
-    Case {
-        name: "line writes, 1,000 without a newline",
-        slice: || vec![b'w'; 1_000],
-        calls: BYTES / 1_000,
-        rust: rust_line_writes,
-        port: port::line_writes,
-    },
-    Case {
-        name: "line writes, 4,096 with the newline 900 before the end",
-        slice: || (0..4_096).map(|i| if i == 3_196 { b'\n' } else { b'w' }).collect(),
-        calls: BYTES / 4_096,
-        rust: rust_line_writes,
-        port: port::line_writes,
-    },
-    Case {
-        name: "reads of 16 bytes",
-        slice: Vec::new,
-        calls: BYTES / 16,
-        rust: rust_reads,
-        port: port::reads,
-    },
-];
-
-fn card(lent: &mut Lent) -> (Card<'_>, &[u8], &mut [u8]) {
-    let Lent { script, medium, stock, slice, destination, .. } = lent;
-    (Card { script, used: 0, medium, out: 0, stock, taken: 0 }, slice, destination)
-}
-
-fn rust_writes(lent: &mut Lent, calls: usize) {
-    let (card, slice, _) = card(lent);
-    let mut writer = BufWriter::with_capacity(CAPACITY, card);
-    for _ in 0..calls {
-        black_box(writer.write(black_box(slice)).unwrap());
+impl Case {
+    fn calls(&self) -> usize {
+        BYTES / self.slice.len()
     }
-    writer.flush().unwrap();
-}
 
-fn rust_line_writes(lent: &mut Lent, calls: usize) {
-    let (card, slice, _) = card(lent);
-    let mut writer = LineWriter::with_capacity(CAPACITY, card);
-    for _ in 0..calls {
-        black_box(writer.write(black_box(slice)).unwrap());
-    }
-    writer.flush().unwrap();
-}
-
-fn rust_reads(lent: &mut Lent, calls: usize) {
-    let (card, _, destination) = card(lent);
-    let mut reader = BufReader::with_capacity(CAPACITY, card);
-    for _ in 0..calls {
-        black_box(reader.read(black_box(destination)).unwrap());
-    }
-}
-
-#[cfg(feature = "linked")]
-mod port {
-    use super::Lent;
-    use differential::library::{stackglow_bench_read, stackglow_bench_writer};
-    use std::hint::black_box;
-
-    pub const LINKED: bool = true;
-
-    fn write(call: u32, numbers: &mut [usize; 3], lent: &mut Lent, slice: &[u8]) -> usize {
-        let Lent { storage, script, medium, .. } = lent;
-        // SAFETY: each slice is lent whole, with its length.
-        unsafe {
-            stackglow_bench_writer(
-                call,
-                numbers.as_mut_ptr(),
-                numbers.len(),
-                storage.as_mut_ptr(),
-                storage.len(),
-                script.as_ptr(),
-                script.len(),
-                medium.as_mut_ptr(),
-                medium.len(),
-                slice.as_ptr(),
-                slice.len(),
-            )
+    /// A round of the Rust's calls.
+    fn rust(&self) -> Box<dyn FnMut() + '_> {
+        let card = Card::new();
+        match self.side {
+            Side::Writer => {
+                let mut writer = BufWriter::with_capacity(CAPACITY, card);
+                Box::new(move || {
+                    self.rust_writes(&mut writer);
+                    writer.get_mut().rewind();
+                })
+            }
+            Side::LineWriter => {
+                let mut writer = LineWriter::with_capacity(CAPACITY, card);
+                Box::new(move || {
+                    self.rust_writes(&mut writer);
+                    writer.plain().get_mut().rewind();
+                })
+            }
+            Side::Reader => {
+                let mut reader = BufReader::with_capacity(CAPACITY, card);
+                let mut destination = self.slice.clone();
+                Box::new(move || {
+                    for _ in 0..self.calls() {
+                        black_box(read(&mut reader, hidden_mut(&mut destination)).unwrap());
+                    }
+                    reader.get_mut().rewind();
+                })
+            }
         }
     }
 
-    fn rounds(call: u32, lent: &mut Lent, calls: usize) {
-        let slice = std::mem::take(&mut lent.slice);
-        let mut numbers = [0; 3];
-        for _ in 0..calls {
-            black_box(write(call, &mut numbers, lent, black_box(&slice)));
+    fn rust_writes<W: Write>(&self, writer: &mut W) {
+        for _ in 0..self.calls() {
+            black_box(write(writer, hidden(&self.slice)).unwrap());
         }
-        write(2, &mut numbers, lent, &[]);
-        lent.slice = slice;
+        flush(writer).unwrap();
     }
 
-    pub fn writes(lent: &mut Lent, calls: usize) {
-        rounds(0, lent, calls);
-    }
-
-    pub fn line_writes(lent: &mut Lent, calls: usize) {
-        rounds(4, lent, calls);
-    }
-
-    pub fn reads(lent: &mut Lent, calls: usize) {
-        let Lent { storage, script, stock, destination, .. } = lent;
-        let mut numbers = [0; 4];
-        for _ in 0..calls {
-            // SAFETY: as above.
-            black_box(unsafe {
-                stackglow_bench_read(
-                    numbers.as_mut_ptr(),
-                    numbers.len(),
-                    storage.as_mut_ptr(),
-                    storage.len(),
-                    script.as_ptr(),
-                    script.len(),
-                    stock.as_ptr(),
-                    stock.len(),
-                    destination.as_mut_ptr(),
-                    destination.len(),
-                )
-            });
+    /// A round of the port's.
+    fn port(&self) -> Box<dyn FnMut() + '_> {
+        match self.side {
+            Side::Writer => self.port_writes(library::write),
+            Side::LineWriter => self.port_writes(library::line_write),
+            Side::Reader => {
+                let Card { script, stock, .. } = Card::new();
+                let (mut storage, mut destination) = (vec![0; CAPACITY], self.slice.clone());
+                Box::new(move || {
+                    let mut reader = Reader::default();
+                    for _ in 0..self.calls() {
+                        let room = hidden_mut(&mut destination);
+                        let told = library::read(&mut reader, &mut storage, &script, &stock, room);
+                        black_box(counted(told));
+                    }
+                })
+            }
         }
     }
 
-    /// Times the judge on one trace.
-    pub fn judge(trace: &[u8]) -> f64 {
-        use differential::port::{Linked, Port};
-        let (mut linked, request) = (Linked::new(), [differential::request::session(trace)]);
-        assert_eq!(linked.answers(&request), [b"judge possible\n"]);
-        super::time(|| drop(black_box(linked.answers(&request))))
+    fn port_writes(
+        &self,
+        write: impl Fn(&mut Writer, &mut [u8], &[u32], &mut [u8], &[u8]) -> Told + 'static,
+    ) -> Box<dyn FnMut() + '_> {
+        let Card { script, mut medium, .. } = Card::new();
+        let mut storage = vec![0; CAPACITY];
+        Box::new(move || {
+            let mut writer = Writer::default();
+            for _ in 0..self.calls() {
+                let slice = hidden(&self.slice);
+                black_box(counted(write(&mut writer, &mut storage, &script, &mut medium, slice)));
+            }
+            counted(library::flush(&mut writer, &mut storage, &script, &mut medium));
+        })
     }
 }
 
-/// Without the library there is nothing to time.
-#[cfg(not(feature = "linked"))]
-mod port {
-    use super::Lent;
-
-    pub const LINKED: bool = false;
-
-    pub fn writes(_: &mut Lent, _: usize) {}
-    pub fn line_writes(_: &mut Lent, _: usize) {}
-    pub fn reads(_: &mut Lent, _: usize) {}
-
-    pub fn judge(_: &[u8]) -> f64 {
-        0.0
-    }
+/// An ok's count.
+fn counted(told: Told) -> usize {
+    assert!(told.number == 0);
+    told.value
 }
 
-/// Nanoseconds of one run: the best of five tries of a tenth of a second.
-fn time(mut run: impl FnMut()) -> f64 {
-    let once = || {
-        let (start, mut runs) = (Instant::now(), 0);
-        while start.elapsed() < Duration::from_millis(100) {
-            run();
-            runs += 1;
+/// Nanoseconds of one run of each: the best of many short tries, which take turns so that whatever
+/// else the machine does meets all of them.
+fn best<const N: usize>(mut runs: [&mut dyn FnMut(); N]) -> [f64; N] {
+    let mut best = [f64::INFINITY; N];
+    for _ in 0..200 {
+        for (run, best) in runs.iter_mut().zip(&mut best) {
+            let (start, mut count) = (Instant::now(), 0);
+            while start.elapsed() < Duration::from_millis(2) {
+                run();
+                count += 1;
+            }
+            *best = best.min(start.elapsed().as_secs_f64() * 1e9 / f64::from(count));
         }
-        start.elapsed().as_secs_f64() * 1e9 / f64::from(runs)
-    };
-    std::iter::repeat_with(once).take(5).fold(f64::INFINITY, f64::min)
+    }
+    best
+}
+
+fn cases() -> [Case; 9] {
+    let plain = |name, side, n| Case { name, side, slice: vec![b'w'; n] };
+    let mut lines = vec![b'w'; 4_096];
+    lines[3_196] = b'\n';
+    let mut short = vec![b'w'; 64];
+    short[63] = b'\n';
+    [
+        plain("writes of 16 bytes", Side::Writer, 16),
+        plain("writes of 100 bytes", Side::Writer, 100),
+        plain("large writes, 4,096 bytes", Side::Writer, 4_096),
+        Case { name: "line writes, lines of 64 bytes", side: Side::LineWriter, slice: short },
+        plain("line writes, 1,000 bytes without a newline", Side::LineWriter, 1_000),
+        Case {
+            name: "line writes, 4,096 bytes with a newline 900 before the end",
+            side: Side::LineWriter,
+            slice: lines,
+        },
+        plain("reads of 16 bytes", Side::Reader, 16),
+        plain("reads of 100 bytes", Side::Reader, 100),
+        plain("large reads, 4,096 bytes", Side::Reader, 4_096),
+    ]
 }
 
 fn main() {
     println!("the Rust: {}", oracle::CODE);
     println!("nanoseconds for a call; capacity {CAPACITY}, medium and stock {BYTES}");
-    for case in &CASES {
-        let mut lent = Lent::new((case.slice)());
-        let calls = case.calls as f64;
-        let rust = time(|| (case.rust)(&mut lent, case.calls)) / calls;
-        print!("{}: Rust {rust:.1}", case.name);
-        if port::LINKED {
-            let port = time(|| (case.port)(&mut lent, case.calls)) / calls;
-            print!(", port {port:.1}, ratio {:.2}", port / rust);
-        }
-        println!();
+    for case in cases() {
+        let [rust, port] = best([&mut case.rust(), &mut case.port()]);
+        let (rust, port) = (rust / case.calls() as f64, port / case.calls() as f64);
+        println!("{}: Rust {rust:.1}, port {port:.1}, ratio {:.2}", case.name, port / rust);
     }
-    if port::LINKED {
-        let trace = differential::judge::largest().session();
-        let port = port::judge(&trace);
-        println!("the judge on a largest trace ({} bytes): port {port:.0}", trace.len());
-    }
+    let trace = judge::largest().bytes();
+    let mut output = [0; 64];
+    let judged = library::judge(&trace, &mut output);
+    assert_eq!(&output[..judged], b"judge possible\n");
+    let [port] = best([&mut || _ = black_box(library::judge(hidden(&trace), &mut output))]);
+    println!("the judge on a largest trace ({} bytes): port {port:.0}", trace.len());
 }

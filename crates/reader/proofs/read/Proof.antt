@@ -16,12 +16,14 @@ returns c =
     let at-start = c .before .before .before .before .before .before .before in
     read-refused _ _ _ _ (at-start .args .state) _ _ (c .before .refusal .ensures) (c .before .before .length-refusal .ensures) (c .if1 .taken)
 
-read-copied-requires : tie.Need-read-copied-requires
-read-copied-requires c κs =
+read-buffered-requires : tie.Need-read-buffered-requires
+read-buffered-requires c κs =
     let at-if1 = c .before .before .before .before in
     let at-refusal = at-if1 .before in
-    let at-start = at-refusal .before .before .before .before .before .before in
-    fit _ _ _ (at-start .args .state) _ _ (at-refusal .refusal .ensures) (at-if1 .if1 .left)
+    let at-length-refusal = at-refusal .before in
+    let at-start = at-length-refusal .before .before .before .before .before in
+    let f = fit (at-start .args .script .now) (at-start .args .stock .now) (at-start .args .storage .now) (at-start .args .state) (at-length-refusal .length-refusal .result) _ (at-refusal .refusal .ensures) (at-if1 .if1 .left) in
+    (f .pos-in, f .filled-in)
 
 same-length : tie.Need-same-length
 same-length c = search needs
@@ -31,16 +33,16 @@ same-length-2 c = search needs
 
 returns-2 : tie.Need-returns-2
 returns-2 c =
-    let at-read-copied = c .before .before .before .before in
-    let at-if2 = at-read-copied .before .before .before in
+    let at-read-buffered = c .before .before in
+    let at-if2 = at-read-buffered .before .before .before in
     let at-if1 = at-if2 .before .before in
     let at-refusal = at-if1 .before in
     let at-length-refusal = at-refusal .before in
     let at-start = at-length-refusal .before .before .before .before .before in
-    read-held _ _ _ _ (at-start .args .state) _ _ (at-refusal .refusal .ensures) (at-length-refusal .length-refusal .ensures) (at-if1 .if1 .left) _ (at-if2 .if2 .taken) (at-read-copied .read-copied .ensures)
+    read-held _ _ _ _ (at-start .args .state) _ _ (at-refusal .refusal .ensures) (at-length-refusal .length-refusal .ensures) (at-if1 .if1 .left) _ (at-if2 .if2 .taken) (at-read-buffered .read-buffered .ensures)
 
-read-copied-requires-2 : tie.Need-read-copied-requires-2
-read-copied-requires-2 c κs =
+read-copied-requires : tie.Need-read-copied-requires
+read-copied-requires c κs =
     let at-if1 = c .before .before .before .before .before in
     let at-refusal = at-if1 .before in
     let at-start = at-refusal .before .before .before .before .before .before in
@@ -54,13 +56,13 @@ same-length-4 c = search needs
 
 returns-3 : tie.Need-returns-3
 returns-3 c =
-    let at-read-copied2 = c .before .before .before .before in
-    let at-if3 = at-read-copied2 .before .before .before in
+    let at-read-copied = c .before .before .before .before in
+    let at-if3 = at-read-copied .before .before .before in
     let at-if1 = at-if3 .before .before .before in
     let at-refusal = at-if1 .before in
     let at-length-refusal = at-refusal .before in
     let at-start = at-length-refusal .before .before .before .before .before in
-    read-small _ _ _ _ (at-start .args .state) _ _ (at-refusal .refusal .ensures) (at-length-refusal .length-refusal .ensures) (at-if1 .if1 .left) _ (at-if3 .if3 .taken) (at-read-copied2 .read-copied2 .ensures)
+    read-small _ _ _ _ (at-start .args .state) _ _ (at-refusal .refusal .ensures) (at-length-refusal .length-refusal .ensures) (at-if1 .if1 .left) _ (at-if3 .if3 .taken) (at-read-copied .read-copied .ensures)
 
 read-direct-requires : tie.Need-read-direct-requires
 read-direct-requires c κs =
@@ -90,11 +92,11 @@ read-spec =
     length-refusal-requires
     refusal-requires
     returns
-    read-copied-requires
+    read-buffered-requires
     same-length
     same-length-2
     returns-2
-    read-copied-requires-2
+    read-copied-requires
     same-length-3
     same-length-4
     returns-3

@@ -9,7 +9,7 @@ returns : tie.Need-returns
 returns c = put-zero _ _ _ _ (omega arith)
 
 sub-least : tie.Need-sub-least
-sub-least c = search needs
+sub-least c = omega arith
 
 least-requires : tie.Need-least-requires
 least-requires c κs = search needs
