@@ -113,12 +113,14 @@ fn shift_few(bytes: &mut [u8], to: usize, from: usize, n: usize)
 
 // The n bytes from place `from` on, moved to the front, by blocks in ascending order: a block is
 // read whole before it is stored, and no later one is touched by that. What is left goes by bytes.
+// The number of turns is known before the first, so that the compiler makes several into one.
 fn shift_exact(bytes: &mut [u8], from: usize, n: usize)
     requires { ⌜ from + n ≤ length (now bytes) ⌝ }
     ensures { λ _. ⌜ now (bytes .exit) ≡ put (now (bytes .entry)) 0 (drop from (now (bytes .entry))) n ⌝ }
 {
+    let whole = n - n % 16;
     let mut i = 0;
-    while 16 <= n - i {
+    while i < whole {
         let block = read_block(bytes, from + i, 16);
         store_block(bytes, i, block, 16);
         i += 16;
