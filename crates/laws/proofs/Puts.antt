@@ -4,10 +4,10 @@ use mathlib.Core.Path.{_≡_, refl, sym, ap, ap₂, _∙_}
 use mathlib.Core.List.{List, [], _∷_, _++_, append-assoc, append-nil}
 use Prim.Native.Nat.{ℕ, zero, suc, _+_, _-_, _≤_, _<_, min}
 use native.Mathlib.Numerals.{add-one}
-use native.Mathlib.Nat.{add-assoc, add-zero}
+use native.Mathlib.Nat.{add-assoc, add-zero, zero-add}
 use native.Mathlib.Omega.{arith}
 use lib.ListN.{length, take, drop, getD, set, length-append, length-take, length-drop, take-append-drop}
-use lib.Seq.{paste-zero, paste-suc, length-paste, take-paste, drop-paste, take-add, drop-drop, take-take, take-append-le, take-append-add, take-length, length-take-le, take-at, drop-at}
+use lib.Seq.{paste-zero, paste-suc, length-paste, take-paste, drop-paste, take-add, drop-drop, take-take, take-append-le, take-append-add, take-length, length-take-le, getD-drop, take-at, drop-at}
 use Rattle.laws.specs.Put.{put}
 
 -- nothing pasted
@@ -69,6 +69,26 @@ put-over d at s m k w hk hm hd hs =
 -- the same where the first ended
 pub put-put : (d : List ℕ) (at : ℕ) (s : List ℕ) (m n : ℕ) → at + (m + n) ≤ length d → m + n ≤ length s → put (put d at s m) (at + m) (drop m s) n ≡ put d at s (m + n)
 put-put d at s m n hd hs = put-over d at s m m n (omega arith) (omega arith) hd hs
+
+-- a byte past the pasted ones
+pub getD-put-past : (d : List ℕ) (at : ℕ) (s : List ℕ) (n j : ℕ) → at + n ≤ length d → n ≤ length s → at + n ≤ j → getD (put d at s n) j 0 ≡ getD d j 0
+getD-put-past d at s n j hd hs h =
+    let e : at + n + (j - (at + n)) ≡ j = omega arith in
+    ap (λ (k : ℕ). getD (put d at s n) k 0) (sym e)
+    ∙ sym (getD-drop (at + n) (put d at s n) (j - (at + n)) 0)
+    ∙ ap (λ (l : List ℕ). getD l (j - (at + n)) 0) (drop-put d at s n (omega arith) hs)
+    ∙ getD-drop (at + n) d (j - (at + n)) 0
+    ∙ ap (λ (k : ℕ). getD d k 0) e
+
+-- a turn of a loop that moves d's own bytes to its front, one at a time
+pub shift-more : (d x : List ℕ) (from i : ℕ) → x ≡ put d 0 (drop from d) i → from + i < length d → set x i (getD x (from + i) 0) ≡ put d 0 (drop from d) (i + 1)
+shift-more d x from i e h =
+    let long : i < length (drop from d) = simp length-drop (omega arith) in
+    let read : getD x (from + i) 0 ≡ getD (drop from d) i 0 = rw e (getD-put-past d 0 (drop from d) i (from + i) (omega arith) (omega arith) (omega arith) ∙ sym (getD-drop from d i 0)) in
+    ap (λ (v : ℕ). set x i v) read
+    ∙ ap (λ (l : List ℕ). set l i (getD (drop from d) i 0)) e
+    ∙ ap (λ (k : ℕ). set (put d 0 (drop from d) i) k (getD (drop from d) i 0)) (sym (zero-add i))
+    ∙ put-more d 0 (drop from d) i (omega arith) long
 
 -- a paste from bytes of which the first n are the same
 pub put-same : (d : List ℕ) (at : ℕ) (s t : List ℕ) (n : ℕ) → take n s ≡ take n t → put d at s n ≡ put d at t n
