@@ -2,14 +2,13 @@
 -- Assumes nothing.
 use mathlib.Core.Path.{_≡_, refl, sym, ap, _∙_}
 use mathlib.Core.List.{List, [], _∷_}
-use Prim.Native.Nat.{ℕ, zero, suc, _+_, _-_, _≤_, _<_, min}
+use Prim.Native.Nat.{ℕ, _+_, _-_, _≤_, _<_, min}
 use native.Mathlib.Nat.{add-zero}
 use native.Mathlib.Omega.{arith}
 use lib.ListN.{length, take, drop, getD, length-drop, drop-of-length-le}
 use lib.Seq.{drop-cons}
 use Rattle.laws.proofs.Parts.{rest, drop-least}
 use Rattle.laws.specs.Put.{put}
-use Rattle.laws.proofs.Puts.{put-none}
 use Rattle.card.specs.declared.Reply.{Reply}
 use Rattle.card.specs.declared.Reply.the-variants.{Accept, Interrupted, Error}
 use Rattle.card.specs.declared.Exchange.{Exchange}
@@ -87,11 +86,6 @@ pub takes-most : (left : List ℕ) → takes left ≤ length left
 unfolding takes
 takes-most [] = omega arith
 takes-most (n ∷ rest) = omega arith
-
-pub takes-one : (left : List ℕ) → takes left ≤ 1
-unfolding takes
-takes-one [] = omega arith
-takes-one (n ∷ rest) = omega arith
 
 pub takes-fit : (script : List ℕ) (used : ℕ) → used ≤ length script → used + takes (drop used script) ≤ length script
 takes-fit script used h =

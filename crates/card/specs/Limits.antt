@@ -1,7 +1,6 @@
 -- The limits of document 01, each named once, and its refusal table.
 -- Assumes nothing.
 use Prim.Native.Nat.{ℕ}
-use mathlib.Core.Bool.{Bool, true, false}
 use lib.Dec.{ltb}
 use Rattle.laws.specs.Pick.{pick}
 

@@ -3,7 +3,7 @@ use crate::Exchange;
 use crate::Reply;
 use crate::bytes;
 ghost use mathlib.Core.Path.{_≡_};
-ghost use Prim.Native.Nat.{_+_, _-_, _≤_, min};
+ghost use Prim.Native.Nat.{_+_, _-_, min};
 ghost use lib.ListN.{length, drop};
 ghost use Rattle.laws.specs.Put.{put};
 ghost use Rattle.card.specs.Device.{replyOf, exchange, moves};

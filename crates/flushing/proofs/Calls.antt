@@ -1,6 +1,6 @@
 -- The definitions as the code builds them: refusals, and the flush of the buffer.
 -- Assumes nothing.
-use mathlib.Core.Path.{_≡_, refl, sym, ap, ap₂, _∙_, subst}
+use mathlib.Core.Path.{_≡_, refl, sym, ap, _∙_, subst}
 use mathlib.Core.Bool.{true, false}
 use mathlib.Core.List.{List}
 use Prim.Native.Nat.{ℕ, _+_, _-_, _≤_, min}
@@ -14,14 +14,14 @@ use Rattle.laws.proofs.Picks.{by-test}
 use Rattle.laws.specs.Put.{put}
 use Rattle.laws.proofs.Puts.{put-take}
 use Rattle.card.specs.Answers.{Said, said, done, refused}
-use Rattle.card.specs.Limits.{refusalOf, scriptMost}
+use Rattle.card.specs.Limits.{refusalOf}
 use Rattle.card.proofs.Refusals.{Unrefused, unrefused, within-limits}
 use Rattle.flushing.specs.declared.State.{State}
 use Rattle.flushing.specs.declared.Answered.{Answered}
 use Rattle.flushing.specs.declared.Sent.{Sent}
 use Rattle.flushing.specs.World.{World, Called, Told, Fit, Sound, capacity, worldOf, worldAfter, told, reported, refusing, begun, isOk}
 use Rattle.flushing.specs.Send.{flushSaid, sendFrom}
-use Rattle.flushing.specs.Flush.{flushBuf, flushedBy, flushBufCall}
+use Rattle.flushing.specs.Flush.{flushBuf, flushBufCall}
 use Rattle.flushing.proofs.Sends.{within}
 use Rattle.flushing.proofs.Flushes.{Keeps, keeps, fit-after}
 use Rattle.flushing.proofs.Cases.{flush-ok-done}

@@ -1,13 +1,12 @@
 -- What every flush of the buffer keeps in range.
 -- Assumes nothing.
-use mathlib.Core.Path.{_≡_, refl, sym, ap, _∙_, subst}
-use mathlib.Core.List.{List, [], _∷_}
-use Prim.Native.Nat.{ℕ, _+_, _-_, _≤_, _<_, min}
+use mathlib.Core.Path.{_≡_, refl, ap, subst}
+use mathlib.Core.List.{List}
+use Prim.Native.Nat.{ℕ, _+_, _-_, _≤_, _<_}
 use native.Mathlib.Omega.{arith}
-use lib.ListN.{length, take, drop, length-drop}
-use Rattle.laws.specs.Put.{put}
+use lib.ListN.{length, drop, length-drop}
 use Rattle.laws.proofs.Puts.{length-put}
-use Rattle.card.specs.Answers.{Said, done}
+use Rattle.card.specs.Answers.{done}
 use Rattle.flushing.specs.declared.Outcome.{Outcome}
 use Rattle.flushing.specs.declared.Outcome.the-variants.{Done, Zero, Failed}
 use Rattle.flushing.specs.declared.Sent.{Sent}
@@ -22,7 +21,6 @@ pub record Keeps (script : List ℕ) (w : World) (c : Called) : Type 0 where
   pub held-most : c .world .held ≤ w .held
   pub sum : c .world .held + c .world .out ≡ w .held + w .out
   pub out-fits : c .world .out ≤ length (w .medium)
-  pub used-begun : w .used ≤ c .world .used
   pub used-fits : c .world .used ≤ length script
   pub flushes-same : c .world .flushes ≡ w .flushes
   pub emptied : c .answer ≡ done → (c .world .held ≡ 0) × (c .world .writes ≤ c .world .used)
@@ -50,7 +48,6 @@ keeps-by script w f fit k =
       held-most = omega arith;
       sum = omega arith;
       out-fits = within-room;
-      used-begun = k .begun;
       used-fits = omega (arith, k .end, fit .used);
       flushes-same = refl;
       emptied = λ e. (omega (arith, k .done (done-only (f .outcome) e) .0), omega (arith, k .done (done-only (f .outcome) e) .1, fit .few));
@@ -73,12 +70,3 @@ fit-after script w v fit e =
       },
       k .emptied refl .0,
     )
-
--- so there is room for a slice that is shorter than the capacity
-pub ready-after : (script : List ℕ) (w : World) (v : World) (n : ℕ) → Fit script w → flushBuf script w ≡ record { answer = done; world = v } → Fit script v × (v .held + min n (length (v .storage)) ≤ length (v .storage))
-ready-after script w v n fit e =
-    let f = fit-after script w v fit e in
-    (f .0, nothing-held (v .held) n (length (v .storage)) (f .1))
-  where
-    nothing-held : (h a k : ℕ) → h ≡ 0 → h + min a k ≤ k
-    nothing-held h a k z = omega arith

@@ -1,6 +1,6 @@
 -- The laws of a run of device writes: how it ends, what one more turn does, and what every run keeps.
 -- Assumes nothing.
-use mathlib.Core.Path.{_≡_, refl, sym, ap, _∙_}
+use mathlib.Core.Path.{_≡_, refl, ap, _∙_}
 use mathlib.Core.Bool.{Bool, true, false}
 use mathlib.Core.List.{List, [], _∷_}
 use Prim.Native.Nat.{ℕ, _+_, _-_, _≤_, _<_, min}
@@ -13,8 +13,7 @@ use Rattle.laws.specs.Pick.{pick}
 use borrow.Author.Tests.{eq-eqb, ne-eqb}
 use Rattle.card.specs.declared.Reply.{Reply}
 use Rattle.card.specs.declared.Reply.the-variants.{Accept, Interrupted, Error}
-use Rattle.card.specs.declared.Exchange.{Exchange}
-use Rattle.card.specs.Device.{replyOf, next, takes, atMost, moves, exchange}
+use Rattle.card.specs.Device.{replyOf, next, takes, atMost, moves}
 use Rattle.card.proofs.Replies.{moves-most, takes-most}
 use Rattle.flushing.specs.declared.Outcome.{Outcome}
 use Rattle.flushing.specs.declared.Outcome.the-variants.{Done, Zero, Failed}

@@ -15,7 +15,6 @@ use Rattle.card.specs.declared.Exchange.{Exchange}
 use Rattle.card.specs.Device.{next, takes, atMost, moves, exchange}
 use Rattle.card.proofs.Replies.{exchange-most, takes-accept, takes-interrupted, takes-most, reply-of-exchange, used-of-exchange}
 use Rattle.flushing.specs.declared.Outcome.the-variants.{Done, Zero, Failed}
-use Rattle.flushing.specs.declared.Sent.{Sent}
 use Rattle.flushing.specs.Send.{sendFrom, sentBy}
 use Rattle.flushing.proofs.Sends.{send-done, send-accept, send-zero, send-interrupted, send-failed}
 

@@ -1,26 +1,25 @@
 -- For each row of the table replies, at most two, on which the call gives the answer and leaves the held count, whatever follows them.
 -- Assumes nothing.
-use mathlib.Core.Path.{_≡_, refl, sym, ap, ap₂, _∙_, subst}
-use mathlib.Core.Bool.{Bool, true, false}
+use mathlib.Core.Path.{_≡_, refl, sym, ap, _∙_, subst}
+use mathlib.Core.Bool.{false}
 use mathlib.Core.List.{List, [], _∷_, _++_, append-assoc}
-use Prim.Native.Nat.{ℕ, zero, suc, _+_, _-_, _≤_, _<_, min}
+use Prim.Native.Nat.{ℕ, _+_, _-_, _≤_, _<_, min}
 use native.Mathlib.Decide.{decLe}
-use native.Mathlib.Nat.{add-zero, sub-zero, add-assoc}
+use native.Mathlib.Nat.{add-zero, sub-zero}
 use native.Mathlib.Omega.{arith}
-use lib.ListN.{length, take, drop, length-append}
-use lib.Dec.{leb, ltb, eqb}
+use lib.ListN.{length, drop, length-append}
+use lib.Dec.{eqb}
 use lib.Seq.{drop-drop, drop-append-seam}
 use borrow.Author.Tests.{le-leb, lt-leb, le-ltb, lt-ltb, eq-eqb, ne-eqb}
 use Rattle.laws.specs.Pick.{pick}
 use Rattle.card.specs.declared.Reply.{Reply}
 use Rattle.card.specs.declared.Reply.the-variants.{Accept, Interrupted, Error}
-use Rattle.card.specs.declared.Exchange.{Exchange}
 use Rattle.card.specs.Answers.{Said, ok, done, interrupted, zero-taken, error}
-use Rattle.card.specs.Device.{replyOf, next, takes, atMost, exchange, moves}
+use Rattle.card.specs.Device.{replyOf, next, takes, atMost, exchange}
 use Rattle.flushing.specs.declared.Outcome.{Outcome}
 use Rattle.flushing.specs.declared.Outcome.the-variants.{Done, Zero, Failed}
 use Rattle.flushing.specs.declared.Sent.{Sent}
-use Rattle.flushing.specs.World.{World, Called, Fit, capacity, spare, room, replies, isOk, andThen, nothing}
+use Rattle.flushing.specs.World.{World, Called, Fit, spare, room, replies, isOk, andThen, nothing}
 use Rattle.flushing.specs.Send.{flushSaid, writeSaid, flushReplySaid, sendFrom, sentBy}
 use Rattle.flushing.specs.Flush.{flushBuf, flushedBy}
 use Rattle.writer.specs.Writer.{stored, placed, readied, cold, written, deviceWrite, write, deviceFlush, flush}
@@ -45,10 +44,6 @@ fails code = 65536 + code
 reply-accept : (m : ℕ) → m ≤ 65535 → replyOf m ≡ Accept m
 unfolding replyOf
 reply-accept m h = rw (le-leb m 65535 h)
-
-reply-cut : replyOf cut ≡ Interrupted
-unfolding replyOf
-reply-cut = refl
 
 reply-fails : (code : ℕ) → 0 < code → replyOf (fails code) ≡ Error code
 unfolding replyOf

@@ -1,13 +1,13 @@
 -- Whatever the replies, a call's answer and the held count that it leaves stand in the table.
 -- Assumes nothing.
-use mathlib.Core.Path.{_≡_, refl, sym, ap, _∙_, subst}
-use mathlib.Core.List.{List, [], _∷_}
-use Prim.Native.Nat.{ℕ, _+_, _-_, _≤_, _<_, min}
+use mathlib.Core.Path.{_≡_, refl, _∙_}
+use mathlib.Core.List.{List}
+use Prim.Native.Nat.{ℕ, _-_, _≤_, min}
 use native.Mathlib.Omega.{arith}
 use lib.ListN.{length}
 use Rattle.card.specs.declared.Reply.{Reply}
 use Rattle.card.specs.declared.Reply.the-variants.{Accept, Interrupted, Error}
-use Rattle.card.specs.Answers.{Said, ok, done}
+use Rattle.card.specs.Answers.{ok, done}
 use Rattle.card.specs.Device.{exchange, moves}
 use Rattle.card.proofs.Replies.{exchange-most}
 use Rattle.flushing.specs.declared.Outcome.{Outcome}
@@ -16,7 +16,7 @@ use Rattle.flushing.specs.World.{World, Called, Fit, room, replies}
 use Rattle.flushing.specs.Send.{flushSaid, writeSaid, flushReplySaid, sendFrom}
 use Rattle.flushing.specs.Flush.{flushBuf}
 use Rattle.writer.specs.Writer.{stored, deviceWrite, write, deviceFlush, flush}
-use Rattle.flushing.proofs.Flushes.{Keeps, keeps}
+use Rattle.flushing.proofs.Flushes.{keeps}
 use Rattle.flushing.proofs.Cases.{flush-cases}
 use Rattle.writer.proofs.Cases.{written-cases, placed-by}
 use Rattle.judge.specs.Table.{Direct, Synced, Stopped, WriteStep, FlushStep}

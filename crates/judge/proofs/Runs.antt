@@ -2,33 +2,29 @@
 -- Assumes nothing.
 use mathlib.Core.Path.{_≡_, refl, sym, ap, ap₂, _∙_, subst}
 use mathlib.Core.Bool.{Bool, true, false}
-use mathlib.Core.Logic.{_↔_}
 use mathlib.Core.List.{List, [], _∷_, _++_, append-assoc, append-nil}
-use Prim.Native.Nat.{ℕ, zero, suc, _+_, _-_, _≤_, _<_, _^_, min}
-use native.Mathlib.Decide.{decLe}
-use native.Mathlib.Nat.{sub-zero}
+use Prim.Native.Nat.{ℕ, zero, _+_, _-_, _≤_, _<_, _^_}
 use native.Mathlib.Omega.{arith}
-use lib.ListN.{length, take, drop, replicate, length-append, length-take, length-replicate}
+use lib.ListN.{length, take, replicate, length-append, length-take, length-replicate}
 use lib.Dec.{eqb}
-use lib.Seq.{take-at, length-take-le, take-nil}
-use borrow.Author.Tests.{eq-eqb, ne-eqb}
+use lib.Seq.{take-at, length-take-le}
 use Rattle.laws.specs.Pick.{pick}
-use Rattle.card.specs.Answers.{Said, ok, done, interrupted, zero-taken, error}
-use Rattle.flushing.specs.World.{World, Called, Fit, begun, room, replies, isOk, new, countOf}
+use Rattle.card.specs.Answers.{Said, ok, done, interrupted, error}
+use Rattle.flushing.specs.World.{World, begun, room, replies, isOk, new, countOf}
 use Rattle.writer.specs.Writer.{write, flush}
 use Rattle.ledger.specs.Ledger.{accepted, ledger}
 use Rattle.ledger.proofs.Moves.{In, Moved, moved-in}
 use Rattle.ledger.proofs.Ledgers.{begun-fit, from-begun, write-moved, flush-moved}
 use Rattle.trace.specs.declared.Claim.{Claim}
 use Rattle.trace.specs.declared.Claim.the-variants.{Ok, Done, Interrupted, Zero, Error}
-use Rattle.trace.specs.Claims.{claimed, codeMost}
+use Rattle.trace.specs.Claims.{claimed}
 use Rattle.trace.specs.Calls.{Told, wrote, flushed, written}
 use Rattle.trace.proofs.Within.{Fair}
 use Rattle.trace.proofs.Rests.{FairSaid, FairTold, AllFair}
 use Rattle.judge.specs.Judge.{calledBy, claim, Explains, Numbers, Possible}
 use Rattle.judge.specs.Table.{Direct, Synced, Stopped, WriteStep, FlushStep, Step, Reach, piece, pieces, Left, Goes}
 use Rattle.judge.proofs.Only.{only-write, only-flush}
-use Rattle.judge.proofs.Can.{sends, cut, fails, directReply, syncedReply, stoppedReply, writeReplies, flushReplies, Claimable, Ran, can-write, can-flush}
+use Rattle.judge.proofs.Can.{sends, directReply, syncedReply, stoppedReply, writeReplies, flushReplies, Claimable, Ran, can-write, can-flush}
 
 -- ---- one call
 
@@ -151,10 +147,6 @@ pub record Ready (script : List ℕ) (w : World) (C h : ℕ) (calls : List Told)
 written-first : (s : List ℕ) (said : Said) (calls : List Told) → written (wrote s said ∷ calls) ≡ length s + written calls
 unfolding written
 written-first s said calls = refl
-
-written-flush : (said : Said) (calls : List Told) → written (flushed said ∷ calls) ≡ written calls
-unfolding written
-written-flush said calls = refl
 
 -- the call on its replies, from the world's own numbers
 call-here : (script : List ℕ) (w : World) (h′ : ℕ) (call : Told) (calls : List Told) (later : List ℕ) → FairTold call → In script w → w .out + w .held + written (call ∷ calls) ≤ length (w .medium) → written (call ∷ calls) ≤ 16384 → length (w .storage) ≤ 1024 → (st : Step (length (w .storage)) (w .held) call h′) → replies script w ≡ stepReplies (length (w .storage)) (w .held) call h′ st ++ later → Ran script (calledBy script w call) (claim call) h′ later

@@ -1,17 +1,17 @@
 -- A call's turn of the flags is the table's.
 -- Assumes nothing.
 use mathlib.Core.Path.{_≡_, refl, sym, ap, _∙_, subst}
-use mathlib.Core.Logic.{_↔_, _⊎_, inl, inr, ⊎-elim}
+use mathlib.Core.Logic.{_⊎_, inl, inr, ⊎-elim}
 use mathlib.Core.Bool.{Bool, true, false}
-use mathlib.Core.List.{List, [], _∷_}
+use mathlib.Core.List.{List}
 use Prim.Native.Nat.{ℕ, _+_, _-_, _≤_, _<_}
-use native.Mathlib.Decide.{decLe, ℕ-discrete}
+use native.Mathlib.Decide.{decLe}
 use native.Mathlib.Omega.{arith}
-use lib.ListN.{length, getD, replicate, getD-replicate, length-replicate}
+use lib.ListN.{length, replicate, getD-replicate, length-replicate}
 use lib.Dec.{leb, ltb, eqb}
-use borrow.Author.Tests.{le-leb, lt-leb, lt-ltb, le-ltb, eq-eqb, ne-eqb, ltb-true, ltb-false, leb-true, leb-false, eqb-true, eqb-false}
+use borrow.Author.Tests.{le-leb, lt-leb, lt-ltb, eq-eqb, ne-eqb, ltb-true, leb-true, eqb-true, eqb-false}
 use Rattle.laws.specs.Pick.{pick}
-use Rattle.card.specs.Answers.{Said, ok, done, interrupted, zero-taken, error}
+use Rattle.card.specs.Answers.{ok}
 use Rattle.trace.specs.declared.Claim.{Claim}
 use Rattle.trace.specs.declared.Claim.the-variants.{Ok, Done, Interrupted, Zero, Error}
 use Rattle.trace.specs.Claims.{claimed}
@@ -20,9 +20,6 @@ use Rattle.judge.specs.Flags.{Has, Top, Adds, landing, Lands, Storable, 
 use Rattle.judge.proofs.Sets.{top-begins}
 
 -- ---- claims and the answers of the table
-
-none-below : {A : Type 0} (k : ℕ) → k < 0 → A
-none-below k h = absurd (omega arith)
 
 synced-of : (claim : Claim) → 0 < syncs claim → Synced (claimed claim)
 synced-of (Ok m) h = absurd (omega arith)

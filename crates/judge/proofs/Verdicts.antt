@@ -1,7 +1,6 @@
 -- From the two walks to the verdict.
 -- Assumes nothing.
-use mathlib.Core.Path.{_≡_, refl, sym, ap, ap₂, _∙_, subst}
-use mathlib.Core.Logic.{_↔_}
+use mathlib.Core.Path.{_≡_, refl, sym, ap, _∙_, subst}
 use mathlib.Core.List.{List, [], _∷_}
 use Prim.Native.Nat.{ℕ, _+_, _-_, _≤_, _<_}
 use native.Mathlib.Omega.{arith}
@@ -10,14 +9,14 @@ use lib.Seq.{length-take-le}
 use Rattle.trace.specs.declared.Header.{Header}
 use Rattle.trace.specs.declared.Checked.the-variants.{Whole, Fault}
 use Rattle.trace.specs.Calls.{Told}
-use Rattle.trace.specs.Trace.{Parsed, fault, trace, callsFrom, traceOf, checked}
+use Rattle.trace.specs.Trace.{Parsed, trace, callsFrom, traceOf, checked}
 use Rattle.trace.proofs.Rests.{held, whole, refused, rest}
 use Rattle.judge.specs.declared.Verdict.{Verdict}
 use Rattle.judge.specs.declared.Verdict.the-variants.{Possible as possible, Impossible as impossible, Refused as refused-at}
 use Rattle.judge.specs.declared.Matched.{Matched}
 use Rattle.judge.specs.declared.Matched.the-variants.{Agrees, Differs}
-use Rattle.judge.specs.Judge.{Possible, ruling, Judged}
-use Rattle.judge.specs.Table.{Reach, pieces, Left, Goes}
+use Rattle.judge.specs.Judge.{Possible, Judged}
+use Rattle.judge.specs.Table.{pieces, Left, Goes}
 use Rattle.judge.specs.Flags.{Has, Reached, OfCalls, OfBytes, Comparison, Ruled}
 use Rattle.judge.proofs.Sets.{top-begins}
 use Rattle.judge.proofs.Runs.{possible-goes, goes-possible}

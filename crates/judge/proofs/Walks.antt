@@ -3,19 +3,15 @@
 use mathlib.Core.Path.{_≡_, refl, sym, ap, ap₂, _∙_, subst}
 use mathlib.Core.Logic.{_↔_}
 use mathlib.Core.Bool.{Bool, true, false}
-use mathlib.Core.List.{List, [], _∷_, _++_, append-nil}
+use mathlib.Core.List.{List, [], _∷_, _++_}
 use Prim.Native.Nat.{ℕ, _+_, _-_, _≤_, _<_, min}
 use native.Mathlib.Decide.{decLe}
 use native.Mathlib.Nat.{sub-zero}
 use native.Mathlib.Numerals.{add-one}
 use native.Mathlib.Omega.{arith}
-use lib.ListN.{length, take, drop, getD, set, replicate, length-append, length-take, length-drop, take-append-drop, drop-of-length-le, getD-replicate, length-replicate}
-use lib.Seq.{take-all, take-append-le, take-append-add, take-at, drop-at, take-take, drop-drop, take-add, length-take-le, take-nil, take-suc, getD-drop, getD-take, getD-set-same, getD-set-other}
+use lib.ListN.{length, take, drop, getD, set, replicate, length-append, length-take, length-drop, take-append-drop, drop-of-length-le}
+use lib.Seq.{take-all, take-append-le, take-append-add, take-at, drop-at, take-take, drop-drop, take-add, length-take-le, take-nil, take-suc, getD-drop, getD-take, getD-set-other}
 use Rattle.laws.specs.Pick.{pick}
-use Rattle.card.specs.Limits.{bytesMost}
-use Rattle.card.specs.Answers.{Said}
-use Rattle.flushing.specs.World.{isOk, countOf}
-use Rattle.ledger.specs.Ledger.{accepted}
 use Rattle.trace.specs.declared.Claim.{Claim}
 use Rattle.trace.specs.declared.Claim.the-variants.{Ok, Done, Interrupted, Zero, Error}
 use Rattle.trace.specs.declared.TracedCall.{TracedCall}
@@ -26,8 +22,8 @@ use Rattle.trace.specs.Calls.{Told, wrote, flushed, told, callAt}
 use Rattle.trace.specs.Trace.{trace, callsFrom}
 use Rattle.trace.proofs.Within.{within}
 use Rattle.trace.proofs.Rests.{rest, next, no-fault, last}
-use Rattle.judge.specs.Table.{WriteStep, FlushStep, Step, Reach, piece, pieces}
-use Rattle.judge.specs.Flags.{Has, StepOf, Leads, Turned, Reached, OfCalls, answers, Same, Comparison, OfBytes}
+use Rattle.judge.specs.Table.{WriteStep, Step, Reach, piece, pieces}
+use Rattle.judge.specs.Flags.{Has, StepOf, Turned, Reached, OfCalls, answers, Same, OfBytes}
 use Rattle.judge.proofs.Turns.{none-set}
 
 -- ---- the held counts

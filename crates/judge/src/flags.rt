@@ -2,8 +2,7 @@
 use card::bytes;
 use trace::Claim;
 ghost use mathlib.Core.Path.{_≡_};
-ghost use Prim.Native.Nat.{ℕ, _+_, _-_, _≤_, _<_};
-ghost use mathlib.Core.Logic.{_⊎_};
+ghost use Prim.Native.Nat.{_+_, _-_, _≤_, _<_};
 ghost use lib.ListN.{length};
 ghost use Rattle.judge.specs.Flags.{Top, Adds, Lands, Storable, Between, landing, landEnd, directs, syncs, zeroEnd, halts, stopEnd, Turned};
 

@@ -5,7 +5,6 @@ mod walk;
 use card::bytes;
 use trace::Checked;
 use trace::whole;
-ghost use mathlib.Core.Path.{_≡_};
 ghost use Prim.Native.Nat.{_+_, _≤_};
 ghost use lib.ListN.{length};
 ghost use Rattle.trace.specs.Trace.{traceOf};

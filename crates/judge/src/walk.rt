@@ -6,9 +6,8 @@ use trace::CallRead;
 use trace::Claim;
 use trace::calls;
 ghost use mathlib.Core.Path.{_≡_};
-ghost use Prim.Native.Nat.{ℕ, _+_, _-_, _≤_, _<_};
-ghost use mathlib.Core.List.{List};
-ghost use lib.ListN.{length, take, drop};
+ghost use Prim.Native.Nat.{_+_, _-_, _≤_, _<_};
+ghost use lib.ListN.{length};
 ghost use Rattle.judge.specs.Flags.{Reached, OfCalls, answers, Same, OfBytes, Comparison};
 
 // The held counts that some replies could have left after all calls, as flags.

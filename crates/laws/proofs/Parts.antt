@@ -1,20 +1,16 @@
 -- Parts of a slice, as a borrow of `&s[a..e]` gives them: `take (e - a) (drop a s)`.
 -- Assumes nothing.
-use mathlib.Core.Path.{_≡_, refl, sym, ap, _∙_}
+use mathlib.Core.Path.{_≡_, sym, _∙_}
 use mathlib.Core.List.{List}
-use Prim.Native.Nat.{ℕ, _+_, _-_, _≤_, _<_, min}
+use Prim.Native.Nat.{ℕ, _-_, _≤_, min}
 use native.Mathlib.Decide.{decLe}
 use native.Mathlib.Omega.{arith}
-use lib.ListN.{length, take, drop, length-take, length-drop, drop-of-length-le}
+use lib.ListN.{length, take, drop, length-drop, drop-of-length-le}
 use lib.Seq.{take-all}
 
 -- `&s[k..]`
 pub rest : (k : ℕ) (s : List ℕ) → take (length s - k) (drop k s) ≡ drop k s
 rest k s = take-all (length s - k) (drop k s) (simp length-drop (omega arith))
-
--- a part's length
-pub length-part : (a e : ℕ) (s : List ℕ) → e ≤ length s → length (take (e - a) (drop a s)) ≡ e - a
-length-part a e s h = simp (length-take, length-drop) (omega arith)
 
 -- a place past the end is as good as the end
 pub drop-least : (n k : ℕ) (s : List ℕ) → k ≡ min n (length s) → drop k s ≡ drop n s

@@ -1,13 +1,13 @@
 -- What `put` leaves: lengths, parts, runs of puts.
 -- Assumes nothing.
 use mathlib.Core.Path.{_≡_, refl, sym, ap, ap₂, _∙_}
-use mathlib.Core.List.{List, [], _∷_, _++_, append-assoc, append-nil}
-use Prim.Native.Nat.{ℕ, zero, suc, _+_, _-_, _≤_, _<_, min}
+use mathlib.Core.List.{List, _++_, append-assoc}
+use Prim.Native.Nat.{ℕ, _+_, _-_, _≤_, _<_}
 use native.Mathlib.Numerals.{add-one}
-use native.Mathlib.Nat.{add-assoc, add-zero, zero-add}
+use native.Mathlib.Nat.{add-assoc, zero-add}
 use native.Mathlib.Omega.{arith}
-use lib.ListN.{length, take, drop, getD, set, length-append, length-take, length-drop, take-append-drop}
-use lib.Seq.{paste-zero, paste-suc, length-paste, take-paste, drop-paste, take-add, drop-drop, take-take, take-append-le, take-append-add, take-length, length-take-le, getD-drop, take-at, drop-at}
+use lib.ListN.{length, take, drop, getD, set, length-drop}
+use lib.Seq.{paste-zero, paste-suc, length-paste, take-paste, drop-paste, take-add, drop-drop, take-take, take-append-add, length-take-le, getD-drop}
 use Rattle.laws.specs.Put.{put}
 
 -- nothing pasted

@@ -1,38 +1,33 @@
 -- The ledger: whatever the calls, the script and the medium, medium then held bytes are the answered prefixes in call order.
 -- Assumes nothing.
-use mathlib.Core.Path.{_≡_, refl, sym, ap, ap₂, _∙_, subst}
+use mathlib.Core.Path.{_≡_, refl, sym, _∙_, subst}
 use mathlib.Core.Bool.{Bool, true, false}
-use mathlib.Core.List.{List, [], _∷_, _++_, append-assoc, append-nil}
-use Prim.Native.Nat.{ℕ, zero, suc, _+_, _-_, _≤_, _<_, min}
-use native.Mathlib.Nat.{zero-add, add-zero}
+use mathlib.Core.List.{List, [], _∷_}
+use Prim.Native.Nat.{ℕ, _+_, _-_, _≤_, min}
 use native.Mathlib.Omega.{arith}
 use lib.ListN.{length, take, drop, length-drop, length-take}
-use lib.Seq.{take-add, take-take, take-nil, take-length}
+use lib.Seq.{take-add, take-take, take-nil}
 use lib.Dec.{eqb}
-use borrow.Author.Tests.{eq-eqb, ne-eqb}
 use Rattle.laws.specs.Pick.{pick}
-use Rattle.laws.specs.Put.{put}
 use Rattle.card.specs.declared.Reply.{Reply}
 use Rattle.card.specs.declared.Reply.the-variants.{Accept, Interrupted, Error}
-use Rattle.card.specs.declared.Exchange.{Exchange}
 use Rattle.card.specs.Answers.{Said, ok, done, refused}
 use Rattle.card.specs.Limits.{refusalOf, lengthRefusal}
-use Rattle.card.specs.Device.{exchange, moves, takes}
+use Rattle.card.specs.Device.{exchange, moves}
 use Rattle.card.proofs.Replies.{exchange-most, takes-fit, used-of-exchange}
-use Rattle.flushing.specs.declared.Sent.{Sent}
-use Rattle.flushing.specs.World.{World, Called, Fit, taken, drained, kept, capacity, room, replies, isOk, andThen, nothing, refusing, begun, worldOf, fresh, new, countOf}
-use Rattle.flushing.specs.Send.{writeSaid, flushReplySaid, sendFrom}
-use Rattle.flushing.specs.Flush.{flushBuf, flushedBy}
-use Rattle.writer.specs.Writer.{stored, placed, deviceWrite, write, deviceFlush, flush, writeCall, flushCall}
+use Rattle.flushing.specs.World.{World, Called, Fit, taken, kept, capacity, room, replies, isOk, andThen, nothing, refusing, begun, new, countOf}
+use Rattle.flushing.specs.Send.{writeSaid, sendFrom}
+use Rattle.flushing.specs.Flush.{flushBuf}
+use Rattle.writer.specs.Writer.{stored, deviceWrite, write, deviceFlush, flush, writeCall, flushCall}
 use Rattle.line.specs.Line.{linesLength, endsLine, completed, tailKept, keepTail, sendLines, lineWrite, lineWriteCall}
 use Rattle.ledger.specs.Ledger.{Call, made, accepted, slice, after, prefixes, ledger}
 use Rattle.flushing.proofs.Sends.{within}
-use Rattle.flushing.proofs.Thens.{then-ok, then-failed, then-cases}
+use Rattle.flushing.proofs.Thens.{then-ok, then-cases}
 use Rattle.flushing.proofs.Cases.{flush-ok-done, flush-cases}
 use Rattle.writer.proofs.Cases.{written-cases, placed-by}
 use Rattle.ledger.proofs.Moves.{In, fit-in, Moved, moved-in, moved-then, unmoved, drained-moved, taken-moved, kept-moved}
 use Rattle.line.proofs.Newlines.{lines-most}
-use Rattle.line.proofs.Lines.{tail-most, lines-taken}
+use Rattle.line.proofs.Lines.{tail-most}
 
 -- ---- the parts
 
@@ -105,14 +100,6 @@ flush-moved script w fit =
     (λ e. flush-buf-moved script w i)
 
 -- ---- the line writer
-
-completed-moved : (script : List ℕ) (w : World) → In script w → Moved script w (completed script w .world) []
-unfolding completed
-completed-moved script w i = by (endsLine (w .storage) (w .held))
-  where
-    by : (t : Bool) → Moved script w (pick t (flushBuf script w) (nothing w) .world) []
-    by true = flush-buf-moved script w i
-    by false = unmoved script w w i refl refl refl refl (i .used)
 
 -- a device write that is ok takes at most what it is offered
 ok-count : (s : List ℕ) (most : ℕ) (r : Reply) → isOk (writeSaid r) ≡ true → moves r ≤ min (length s) most → countOf (writeSaid r) ≤ length s

@@ -1,17 +1,15 @@
 -- What the parts of a call do to the ledger: each adds exactly the bytes that it takes of a slice.
 -- Assumes nothing.
-use mathlib.Core.Path.{_≡_, refl, sym, ap, ap₂, _∙_, subst}
-use mathlib.Core.Bool.{Bool, true, false}
-use mathlib.Core.List.{List, [], _∷_, _++_, append-assoc, append-nil}
-use Prim.Native.Nat.{ℕ, zero, suc, _+_, _-_, _≤_, _<_, min}
-use native.Mathlib.Nat.{zero-add, add-zero}
+use mathlib.Core.Path.{_≡_, refl, sym, ap, ap₂, _∙_}
+use mathlib.Core.List.{List, [], _++_, append-assoc, append-nil}
+use Prim.Native.Nat.{ℕ, _+_, _-_, _≤_}
+use native.Mathlib.Nat.{zero-add}
 use native.Mathlib.Omega.{arith}
 use lib.ListN.{length, take, drop, length-drop}
 use lib.Seq.{take-add, drop-drop}
 use Rattle.laws.specs.Put.{put}
 use Rattle.laws.proofs.Puts.{take-put, drop-put, length-put}
-use Rattle.card.specs.Answers.{Said, done}
-use Rattle.flushing.specs.World.{World, Called, Fit, taken, drained, kept}
+use Rattle.flushing.specs.World.{World, Fit, taken, drained, kept}
 use Rattle.ledger.specs.Ledger.{ledger}
 
 -- a world whose numbers are within their lists

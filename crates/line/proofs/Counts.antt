@@ -1,6 +1,5 @@
 -- The device calls that a call reports are the replies that it took, plus one if it met the script's end.
 -- Assumes nothing.
-use mathlib.Core.Path.{_≡_}
 use mathlib.Core.List.{List}
 use Prim.Native.Nat.{ℕ}
 use native.Mathlib.Omega.{arith}

@@ -26,7 +26,7 @@ use Rattle.flushing.specs.declared.Answered.{Answered}
 use Rattle.flushing.specs.declared.Outcome.{Outcome}
 use Rattle.flushing.specs.declared.Outcome.the-variants.{Done}
 use Rattle.flushing.specs.declared.Sent.{Sent}
-use Rattle.flushing.specs.World.{World, Called, Told, Sound, worldOf, worldAfter, told, reported, taken, isOk, andThen, nothing, refusing, countOf}
+use Rattle.flushing.specs.World.{World, Called, Told, Sound, worldOf, worldAfter, told, reported, taken, isOk, andThen, nothing, refusing}
 use Rattle.flushing.specs.Send.{wholeSaid, writeSaid, sendFrom}
 use Rattle.flushing.specs.Flush.{flushBuf, flushBufCall}
 use Rattle.flushing.proofs.Sends.{within}

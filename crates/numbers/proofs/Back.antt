@@ -252,10 +252,6 @@ only bytes at v next f e =
     let s = only-of 5 15 bytes at v next width f e in
     (s .below, (s .ends, s .part))
 
--- the value that is read is below 2^32
-pub value-below : (bytes : List ℕ) (at v next : ℕ) → Bytes bytes → number bytes at ≡ Value v next → v < 2 ^ 32
-value-below bytes at v next f e = only bytes at v next f e .0
-
 -- the places of a value: after its start, and not past the end
 pub value-places : (bytes : List ℕ) (at v next : ℕ) → number bytes at ≡ Value v next → (at < next) × (next ≤ length bytes)
 unfolding number numberOf

@@ -1,9 +1,9 @@
 -- A reader's session: one call.
 -- Assumes nothing.
-use mathlib.Core.Path.{_≡_, refl, sym, ap, ap₂, _∙_}
-use mathlib.Core.List.{List, [], _∷_}
-use Prim.Native.Nat.{ℕ, _≤_}
-use lib.ListN.{length, take, drop, replicate}
+use mathlib.Core.Path.{_≡_, refl, sym, ap, _∙_}
+use mathlib.Core.List.{List, []}
+use Prim.Native.Nat.{ℕ}
+use lib.ListN.{take}
 use Rattle.card.specs.Answers.{said}
 use Rattle.card.specs.declared.Answer.{Answer}
 use Rattle.card.specs.declared.Answer.the-variants.{Ok, Done, Interrupted, Zero, Whole, Error, Refused}
@@ -18,8 +18,8 @@ use Rattle.form.specs.declared.CallRead.the-variants.{Found}
 use Rattle.form.specs.Calls.{asked, callAt}
 use Rattle.form.proofs.Within.{Fits, within}
 use Rattle.text.specs.declared.Name.{Name}
-use Rattle.text.specs.declared.Name.the-variants.{Read, Peek, Consume, SeekRelative, Fill}
-use Rattle.text.specs.Printed.{Printed, printed}
+use Rattle.text.specs.declared.Name.the-variants.{Read, Peek, Fill}
+use Rattle.text.specs.Printed.{printed}
 use Rattle.text.specs.Lines.{readerLine, readerEnd}
 use Rattle.session.specs.Reading.{shownBy, stepped, readStep, peekStep, fillStep, readerEnds}
 use Rattle.session.specs.Lines.{Step}

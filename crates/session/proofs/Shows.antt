@@ -6,9 +6,7 @@ use Prim.Native.Nat.{ℕ, _≤_, min}
 use native.Mathlib.Omega.{arith}
 use lib.ListN.{length, take, drop, replicate, length-drop}
 use lib.Seq.{take-all}
-use lib.Dec.{eqb}
 use borrow.Author.Tests.{eq-eqb, ne-eqb}
-use Rattle.laws.specs.Pick.{pick}
 use Rattle.laws.specs.Put.{put}
 use Rattle.card.specs.Limits.{bytesMost}
 use Rattle.flushing.specs.World as Writer
@@ -19,8 +17,7 @@ use Rattle.judge.specs.declared.Verdict.{Verdict}
 use Rattle.judge.specs.Judge.{Judged}
 use Rattle.form.specs.declared.Header.{Header}
 use Rattle.form.specs.declared.Checked.the-variants.{Session, Traced, Fault}
-use Rattle.form.specs.Session.{Parsed, fault, traced, session, sessionOf, checked}
-use Rattle.form.specs.Calls.{Asked}
+use Rattle.form.specs.Session.{session, sessionOf, checked}
 use Rattle.form.specs.Replies.{repliesIn}
 use Rattle.form.proofs.Rests.{held, held-trace, refused, whole, whole-trace}
 use Rattle.form.proofs.Filling.{filled}
@@ -28,10 +25,10 @@ use Rattle.text.specs.Printed.{Printed, printed}
 use Rattle.text.specs.Lines.{sessionLine, sessionRefused}
 use Rattle.text.proofs.Prints.{after, length-printed}
 use Rattle.text.proofs.Shows.{place-within}
-use Rattle.session.specs.Lines.{Step, linesOf}
+use Rattle.session.specs.Lines.{linesOf}
 use Rattle.session.specs.Writing.{writerStep, writerEnds, writerText}
 use Rattle.session.specs.Reading.{readerStep, readerEnds, readerText}
-use Rattle.session.specs.Session.{verdictLine, JudgeText, Ruled, TextOf, Shown}
+use Rattle.session.specs.Session.{verdictLine, Ruled, Shown}
 use Rattle.session.specs.Steps.{Lines, Good, Ready}
 use Rattle.session.proofs.Offsets.{zeros}
 

@@ -1,24 +1,20 @@
 -- A writer's session: one call.
 -- Assumes nothing.
-use mathlib.Core.Path.{_≡_, refl, sym, ap, ap₂, _∙_, subst}
-use mathlib.Core.List.{List, [], _∷_, _++_}
-use Prim.Native.Nat.{ℕ, _+_, _-_, _≤_, _<_, min}
-use native.Mathlib.Omega.{arith}
-use lib.ListN.{length, take, drop, length-drop}
-use lib.Dec.{eqb}
+use mathlib.Core.Path.{_≡_, sym, ap, ap₂, _∙_}
+use mathlib.Core.List.{List}
+use Prim.Native.Nat.{ℕ, _-_}
+use lib.ListN.{take}
 use borrow.Author.Tests.{eq-eqb, ne-eqb}
-use Rattle.laws.specs.Pick.{pick}
 use Rattle.card.specs.Answers.{said}
 use Rattle.flushing.specs.declared.State.{State}
 use Rattle.flushing.specs.declared.Answered.{Answered}
 use Rattle.flushing.specs.World.{World, Told, worldOf, fresh, told, reported, new}
 use Rattle.writer.specs.Writer.{writeCall, writeAllCall}
 use Rattle.line.specs.Line.{lineWriteCall, lineWriteAllCall}
-use Rattle.form.specs.Calls.{Asked}
 use Rattle.text.specs.declared.Name.{Name}
-use Rattle.text.specs.Printed.{Printed, printed}
+use Rattle.text.specs.Printed.{printed}
 use Rattle.text.specs.Lines.{writerLine, writerEnd}
-use Rattle.session.specs.Writing.{toldWrite, toldWriteAll, stepped, writerStep, writerEnds}
+use Rattle.session.specs.Writing.{toldWrite, toldWriteAll, stepped, writerEnds}
 use Rattle.session.specs.Lines.{Step}
 use Rattle.session.specs.Steps.{Steps}
 

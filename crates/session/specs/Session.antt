@@ -10,7 +10,7 @@ use Rattle.judge.specs.declared.Verdict.{Verdict}
 use Rattle.judge.specs.declared.Verdict.the-variants.{Possible, Impossible, Refused}
 use Rattle.judge.specs.Judge.{Judged}
 use Rattle.form.specs.Session.{Parsed, fault, traced, session, sessionOf}
-use Rattle.text.specs.Printed.{Printed, printed}
+use Rattle.text.specs.Printed.{printed}
 use Rattle.text.specs.Lines.{judgePossible, judgeImpossible, judgeRefused, sessionRefused}
 use Rattle.session.specs.Writing.{writerText}
 use Rattle.session.specs.Reading.{readerText}

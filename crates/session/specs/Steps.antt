@@ -12,7 +12,7 @@ use Rattle.form.specs.declared.Header.{Header}
 use Rattle.form.specs.Session.{session, sessionOf}
 use Rattle.form.specs.Lists.{listed}
 use Rattle.form.specs.Calls.{Asked, write, write-all, flush, read, peek, consume, seek-relative, fill, callsFrom}
-use Rattle.text.specs.Printed.{Printed, printed}
+use Rattle.text.specs.Printed.{printed}
 use Rattle.session.specs.Lines.{Step, linesOf}
 use Rattle.session.specs.Reading.{shownBy}
 

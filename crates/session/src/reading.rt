@@ -10,7 +10,7 @@ use text::lines;
 ghost use mathlib.Core.Path.{_≡_};
 ghost use mathlib.Core.List.{List};
 ghost use Prim.Native.Nat.{ℕ, _≤_};
-ghost use lib.ListN.{length, take, drop, replicate};
+ghost use lib.ListN.{replicate};
 ghost use Rattle.card.specs.Limits.{bytesMost};
 ghost use Rattle.card.specs.Answers.{said};
 ghost use Rattle.reader.specs.World.{world, called};

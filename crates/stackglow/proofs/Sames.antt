@@ -6,7 +6,6 @@ use mathlib.Core.List.{List}
 use Prim.Native.Nat.{ℕ}
 use lib.IntN.{ℤ}
 use Rattle.card.proofs.Sames.{one}
-use Rattle.flushing.specs.World as Writer
 use Rattle.flushing.specs.World.{World, Called, reported}
 use Rattle.flushing.specs.Flush.{flushBufCall}
 use Rattle.writer.specs.Writer.{writeCall, writeAllCall, flushCall}

@@ -1,7 +1,7 @@
 -- An answer in two numbers, as it is handed over.
 -- Assumes nothing.
 use Prim.Native.Nat.{ℕ}
-use mathlib.Core.List.{List, [], _∷_}
+use mathlib.Core.List.{[], _∷_}
 use Rattle.card.specs.Answers.{Said}
 
 -- document 01's number of the answer

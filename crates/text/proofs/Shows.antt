@@ -39,7 +39,3 @@ pub shows : (output : List ℕ) (at : ℕ) (text : List ℕ) → at + length tex
 shows output at text h =
     let e : fitting output at text ≡ length text = omega arith in
     front output at text (omega arith) ∙ ap (λ (n : ℕ). take at output ++ take n text) e ∙ ap (λ (t : List ℕ). take at output ++ t) (take-length text)
-
--- from the output's start: the text alone
-pub shows-all : (output text : List ℕ) → length text ≤ length output → take (printed output 0 text .at) (printed output 0 text .output) ≡ text
-shows-all output text h = shows output 0 text (omega arith)

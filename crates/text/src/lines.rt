@@ -4,7 +4,7 @@ use crate::parts;
 use card::Answer;
 ghost use mathlib.Core.Path.{_≡_};
 ghost use Rattle.card.specs.Answers.{said};
-ghost use Rattle.text.specs.Printed.{Printed, printed};
+ghost use Rattle.text.specs.Printed.{printed};
 ghost use Rattle.text.specs.Lines.{sessionLine, callOf, writerCalls, writerLine, readerLine, writerEnd, readerEnd, judgePossible, judgeImpossible, judgeRefused, sessionRefused};
 
 // `session K capacity C`

@@ -5,7 +5,7 @@ use card::bytes;
 ghost use mathlib.Core.Path.{_≡_};
 ghost use mathlib.Core.List.{[], _∷_, _++_};
 ghost use Prim.Native.Nat.{_/_, _%_, _<_};
-ghost use Rattle.text.specs.Printed.{Printed, printed};
+ghost use Rattle.text.specs.Printed.{printed};
 ghost use Rattle.text.specs.Words.{nameOf};
 ghost use Rattle.text.specs.Numbers.{digit, decimalOf, hexDigits, hexOf};
 ghost use Rattle.text.specs.Answers.{answerOf};

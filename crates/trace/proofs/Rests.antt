@@ -69,13 +69,6 @@ abbrev pub AllFair : List Told → Type 0
 AllFair [] = Unit
 AllFair (call ∷ calls) = FairTold call × AllFair calls
 
--- a call as the trace tells it, by its kind
-pub told-write : (t : List ℕ) (call : TracedCall) → call .flush ≡ false → told t call ≡ wrote (take (call .length) (drop (call .start) t)) (claimed (call .claim))
-told-write t call e = ap (λ (b : Bool). pick b (flushed (claimed (call .claim))) (wrote (take (call .length) (drop (call .start) t)) (claimed (call .claim)))) e
-
-pub told-flush : (t : List ℕ) (call : TracedCall) → call .flush ≡ true → told t call ≡ flushed (claimed (call .claim))
-told-flush t call e = ap (λ (b : Bool). pick b (flushed (claimed (call .claim))) (wrote (take (call .length) (drop (call .start) t)) (claimed (call .claim)))) e
-
 -- of one call that is read
 pub told-fair : (t : List ℕ) (call : TracedCall) → Fair (call .flush) (call .claim) → FairTold (told t call)
 told-fair t call f = by (call .flush) f

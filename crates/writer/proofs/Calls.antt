@@ -27,7 +27,7 @@ use Rattle.flushing.proofs.Flushes.{keeps, fit-after}
 use Rattle.flushing.proofs.Cases.{flush-ok-done}
 use Rattle.flushing.proofs.Thens.{then-failed, told-called}
 use Rattle.flushing.proofs.Calls.{sound-fit, sound-call, flush-made, flush-ready, flush-unrefused}
-use Rattle.writer.specs.Writer.{placed, readied, cold, deviceWrite, takenBy, deviceWriteAll, written, deviceFlush, flush, flushCall}
+use Rattle.writer.specs.Writer.{placed, readied, cold, deviceWrite, deviceWriteAll, written, deviceFlush, flush, flushCall}
 
 -- ---- `write` and `write_all`, after the flush or without one
 

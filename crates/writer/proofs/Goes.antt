@@ -1,23 +1,22 @@
 -- What `write_all` leaves: as much storage and medium, and where it succeeds a fit world, in which a next step can go on.
 -- Assumes nothing.
-use mathlib.Core.Path.{_≡_, refl, sym, ap, _∙_, subst}
-use mathlib.Core.Bool.{Bool, true, false}
-use mathlib.Core.List.{List, [], _∷_}
-use Prim.Native.Nat.{ℕ, _+_, _-_, _≤_, _<_}
+use mathlib.Core.Path.{_≡_, refl, _∙_}
+use mathlib.Core.Bool.{true}
+use mathlib.Core.List.{List}
+use Prim.Native.Nat.{ℕ, _+_, _-_, _≤_}
 use native.Mathlib.Omega.{arith}
-use lib.ListN.{length, drop, length-drop}
-use Rattle.laws.specs.Put.{put}
+use lib.ListN.{length, length-drop}
 use Rattle.laws.proofs.Puts.{length-put}
 use Rattle.card.specs.Answers.{Said, done}
 use Rattle.flushing.specs.declared.Outcome.{Outcome}
 use Rattle.flushing.specs.declared.Outcome.the-variants.{Done, Zero, Failed}
 use Rattle.flushing.specs.declared.Sent.{Sent}
-use Rattle.flushing.specs.World.{World, Called, Fit, capacity, room, replies, isOk, kept}
-use Rattle.flushing.specs.Send.{wholeSaid, sendFrom}
+use Rattle.flushing.specs.World.{World, Called, Fit, room, replies, isOk}
+use Rattle.flushing.specs.Send.{wholeSaid}
 use Rattle.flushing.specs.Flush.{flushBuf}
-use Rattle.writer.specs.Writer.{stored, placed, takenBy, deviceWriteAll, writeAll}
+use Rattle.writer.specs.Writer.{stored, takenBy, deviceWriteAll, writeAll}
 use Rattle.flushing.proofs.Sends.{Within, within}
-use Rattle.flushing.proofs.Flushes.{Keeps, keeps}
+use Rattle.flushing.proofs.Flushes.{keeps}
 use Rattle.flushing.proofs.Cases.{flush-ok-done}
 use Rattle.writer.proofs.Cases.{written-cases, placed-by}
 

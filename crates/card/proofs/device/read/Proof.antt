@@ -1,7 +1,5 @@
 -- `card::device::read` meets its contract. Assumes nothing.
-use mathlib.Core.Path.{refl}
 use lib.ListN.{length}
-use native.Mathlib.Omega.{arith}
 use borrow.Author.Needs.{needs}
 use Rattle.card.proofs.Replies.{carried, rest-from, rest-offered, rest-fits}
 use Rattle.card.proofs.device.read.Statement.{statement}

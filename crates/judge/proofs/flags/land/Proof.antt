@@ -1,6 +1,6 @@
 -- `judge::flags::land` meets its contract. Assumes nothing.
 use mathlib.Core.Path.{_≡_, refl}
-use Prim.Native.Nat.{ℕ, _-_, _≤_, _<_}
+use Prim.Native.Nat.{_-_, _≤_}
 use lib.ListN.{length, length-set}
 use native.Mathlib.Omega.{arith}
 use Rattle.judge.proofs.Sets.{land-begins, land-more, land-skip, landing-most}

@@ -1,6 +1,6 @@
 -- `judge::flags::mark` meets its contract. Assumes nothing.
 use mathlib.Core.Path.{_≡_, refl}
-use Prim.Native.Nat.{ℕ, _-_, _≤_, _<_, max}
+use Prim.Native.Nat.{_-_, _≤_, max}
 use lib.ListN.{length, length-set}
 use native.Mathlib.Omega.{arith}
 use Rattle.judge.proofs.Sets.{mark-begins, mark-more, mark-ends}

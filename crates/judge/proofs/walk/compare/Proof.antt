@@ -1,5 +1,5 @@
 -- `judge::walk::compare` meets its contract, by the walk of `Walks`. Assumes nothing.
-use mathlib.Core.Path.{_≡_, sym, ap, _∙_}
+use mathlib.Core.Path.{sym, ap, _∙_}
 use Prim.Native.Nat.{ℕ, _-_, min}
 use native.Mathlib.Omega.{arith}
 use borrow.Author.Tests.{not-true, not-false}
