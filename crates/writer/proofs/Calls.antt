@@ -1,7 +1,7 @@
 -- The calls' definitions as the code builds them: each lemma says what a way through the code tells.
 -- Assumes nothing.
 use mathlib.Core.Path.{_≡_, refl, sym, ap, _∙_, subst}
-use mathlib.Core.Bool.{true, false}
+use mathlib.Core.Bool.{Bool, true, false}
 use mathlib.Core.List.{List}
 use Prim.Native.Nat.{ℕ, _+_, _-_, _≤_, _<_, min}
 use native.Mathlib.Nat.{add-zero}
@@ -27,14 +27,14 @@ use Rattle.flushing.proofs.Flushes.{keeps, fit-after}
 use Rattle.flushing.proofs.Cases.{flush-ok-done}
 use Rattle.flushing.proofs.Thens.{then-failed, told-called}
 use Rattle.flushing.proofs.Calls.{sound-fit, sound-call, flush-made, flush-ready, flush-unrefused}
-use Rattle.writer.specs.Writer.{placed, readied, cold, deviceWrite, deviceWriteAll, written, deviceFlush, flush, flushCall}
+use Rattle.writer.specs.Writer.{storedSaid, deviceOf, placed, readied, cold, deviceWrite, deviceWriteAll, written, deviceFlush, flush, flushCall}
 
 -- ---- `write` and `write_all`, after the flush or without one
 
 -- a device write, handed up
-pub device-is : (script st me s : List ℕ) (state : State) (writes k : ℕ) (e : Exchange) (a : Said) (y : List ℕ) → e ≡ exchange (drop (state .used) script) (state .used) (min (length s) (length me - state .out)) → y ≡ put me (state .out) s (moves (e .reply)) → a ≡ writeSaid (e .reply) → k ≡ moves (e .reply) → length st ≤ length s → record { answer = a; calls = writes + 1; held = state .held; out = state .out + k; used = e .used; storage = st; medium = y } ≡ reported (placed (ok (length s)) (λ v. deviceWrite script v s) (worldAfter state st me writes) s)
+pub device-is : (script st me s : List ℕ) (state : State) (writes k : ℕ) (e : Exchange) (a : Said) (y : List ℕ) → e ≡ exchange (drop (state .used) script) (state .used) (min (length s) (length me - state .out)) → y ≡ put me (state .out) s (moves (e .reply)) → a ≡ writeSaid (e .reply) → k ≡ moves (e .reply) → length st ≤ length s → (whole : Bool) → whole ≡ false → record { answer = a; calls = writes + 1; held = state .held; out = state .out + k; used = e .used; storage = st; medium = y } ≡ reported (placed (storedSaid whole (length s)) (λ v. deviceOf whole script v s) (worldAfter state st me writes) s)
 unfolding placed deviceWrite
-device-is script st me s state writes k e a y pe py pa pk h = rw (le-leb _ _ h) (cc (add-zero (writes + 1)))
+device-is script st me s state writes k e a y pe py pa pk h whole q = rw (q, le-leb _ _ h) (cc (add-zero (writes + 1)))
 
 pub device-room : (left s me : List ℕ) (used out k : ℕ) (e : Exchange) → e ≡ exchange left used (min (length s) (length me - out)) → k ≡ moves (e .reply) → out ≤ length me → out + k ≤ length me
 device-room left s me used out k e pe pk h =
@@ -51,19 +51,19 @@ device-all-few script s me used out writes f pf h few =
     rw pf (omega (arith, k .count, k .end))
 
 -- the default device write, counted from the writes before it
-pub device-all-is : (script st me s : List ℕ) (state : State) (writes : ℕ) (f : Sent) (a : Said) (y : List ℕ) → f ≡ sendFrom (drop (state .used) script) (length s) (length me - state .out) 0 (state .used) 0 → y ≡ put me (state .out) s (f .sent) → a ≡ wholeSaid (f .outcome) → length st ≤ length s → record { answer = a; calls = writes + f .writes; held = state .held; out = state .out + f .sent; used = f .used; storage = st; medium = y } ≡ reported (placed done (λ v. deviceWriteAll script v s) (worldAfter state st me writes) s)
+pub device-all-is : (script st me s : List ℕ) (state : State) (writes : ℕ) (f : Sent) (a : Said) (y : List ℕ) → f ≡ sendFrom (drop (state .used) script) (length s) (length me - state .out) 0 (state .used) 0 → y ≡ put me (state .out) s (f .sent) → a ≡ wholeSaid (f .outcome) → length st ≤ length s → (whole : Bool) → whole ≡ true → record { answer = a; calls = writes + f .writes; held = state .held; out = state .out + f .sent; used = f .used; storage = st; medium = y } ≡ reported (placed (storedSaid whole (length s)) (λ v. deviceOf whole script v s) (worldAfter state st me writes) s)
 unfolding placed deviceWriteAll
-device-all-is script st me s state writes f a y pf py pa h =
+device-all-is script st me s state writes f a y pf py pa h whole q =
     let run : sendFrom (drop (state .used) script) (length s) (length me - state .out) 0 (state .used) writes ≡ later writes f =
     ap (λ (k : ℕ). sendFrom (drop (state .used) script) (length s) (length me - state .out) 0 (state .used) k) (sym (add-zero writes))
     ∙ send-later (drop (state .used) script) (length s) (length me - state .out) 0 (state .used) 0 writes
     ∙ ap (λ (g : Sent). later writes g) (sym pf) in
-    rw (le-leb _ _ h) (rw run (cc (add-zero (writes + f .writes))))
+    rw (q, le-leb _ _ h) (rw run (cc (add-zero (writes + f .writes))))
 
 -- a slice stored
-pub stored-is : (st me s : List ℕ) (state : State) (writes : ℕ) (answer : Said) (device : World → Called) (x : List ℕ) → x ≡ put st (state .held) s (min (length s) (min (length s) (length st - state .held))) → state .held + min (length s) (length st) ≤ length st → length s < length st → record { answer = answer; calls = writes; held = state .held + length s; out = state .out; used = state .used; storage = x; medium = me } ≡ reported (placed answer device (worldAfter state st me writes) s)
+pub stored-is : (st me s : List ℕ) (state : State) (writes : ℕ) (a answer : Said) (device : World → Called) (x : List ℕ) → a ≡ answer → x ≡ put st (state .held) s (min (length s) (min (length s) (length st - state .held))) → state .held + min (length s) (length st) ≤ length st → length s < length st → record { answer = a; calls = writes; held = state .held + length s; out = state .out; used = state .used; storage = x; medium = me } ≡ reported (placed answer device (worldAfter state st me writes) s)
 unfolding placed
-stored-is st me s state writes answer device x px h k =
+stored-is st me s state writes a answer device x pa px h k =
     let n : min (length s) (min (length s) (length st - state .held)) ≡ length s = omega arith in
     rw (lt-leb _ _ k) (cc (add-zero writes))
 

@@ -1,6 +1,7 @@
 -- Module 3, the buffered writer: what each call does where it meets no refusal, and what it promises on every input.
 -- Assumes nothing.
 use Prim.Native.Nat.{ℕ, _+_, min}
+use mathlib.Core.Bool.{Bool}
 use mathlib.Core.List.{List}
 use lib.ListN.{length}
 use lib.Dec.{leb, ltb}
@@ -32,6 +33,13 @@ deviceWriteAll script w s = takenBy w s (sendFrom (replies script w) (length s) 
 -- A slice stored, whole
 abbrev pub stored : Said → World → List ℕ → Called
 stored answer w s = record { answer = answer; world = kept w s (length s) }
+
+-- Of both, by whether it is `write_all`: what a stored slice answers, and the device write
+abbrev pub storedSaid : Bool → ℕ → Said
+storedSaid whole n = pick whole done (ok n)
+
+abbrev pub deviceOf : Bool → List ℕ → World → List ℕ → Called
+deviceOf whole script w s = pick whole (deviceWriteAll script w s) (deviceWrite script w s)
 
 -- "Then length >= capacity makes one device write whose answer is handed up, interrupted included; a smaller slice is stored"
 unfoldable pub placed : Said → (World → Called) → World → List ℕ → Called

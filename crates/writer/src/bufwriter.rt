@@ -12,10 +12,10 @@ use flushing::send;
 ghost use mathlib.Core.Path.{_≡_};
 ghost use Prim.Native.Nat.{_+_, _≤_, min};
 ghost use lib.ListN.{length, take};
-ghost use Rattle.card.specs.Answers.{said, ok, done};
+ghost use Rattle.card.specs.Answers.{said};
 ghost use Rattle.flushing.specs.World.{Fit, Sound, worldOf, worldAfter, told, reported, fresh};
 ghost use Rattle.flushing.specs.Send.{wholeSaid, writeSaid, flushReplySaid};
-ghost use Rattle.writer.specs.Writer.{placed, readied, cold, deviceWrite, deviceWriteAll, writeCall, writeAllCall, flushCall};
+ghost use Rattle.writer.specs.Writer.{storedSaid, deviceOf, placed, readied, cold, writeCall, writeAllCall, flushCall};
 
 // ---- the cases of an answer
 
@@ -49,63 +49,46 @@ fn flush_reply_answer(reply: Reply) -> Answer
     }
 }
 
-// ---- a slice that does not fit with room to spare
+// ---- a slice that does not fit with room to spare, of `write` or, where `whole`, of `write_all`
 
-// A slice that goes to the device where it is as long as the capacity, and is stored where not.
+fn stored_answer(whole: bool, n: usize) -> Answer
+    ensures { λ r. ⌜ said r ≡ storedSaid whole n ⌝ }
+{
+    if whole {
+        return Answer::Done;
+    }
+    Answer::Ok(n)
+}
+
+// A slice that is stored where it is shorter than the capacity, and goes to the device where not.
 fn place(
     state: State,
     storage: &mut [u8],
     script: &[u32],
     medium: &mut [u8],
     slice: &[u8],
+    whole: bool,
     writes: usize,
 ) -> Answered
     requires { ⌜ Fit (now script) (worldAfter state (now storage) (now medium) writes) × (state .held + min (length (now slice)) (length (now storage)) ≤ length (now storage)) ⌝ }
-    ensures { λ r. ⌜ told r (now (storage .exit)) (now (medium .exit)) ≡ reported (placed (ok (length (now (slice .entry)))) (λ v. deviceWrite (now (script .entry)) v (now (slice .entry))) (worldAfter state (now (storage .entry)) (now (medium .entry)) writes) (now (slice .entry))) ⌝ }
+    ensures { λ r. ⌜ told r (now (storage .exit)) (now (medium .exit)) ≡ reported (placed (storedSaid whole (length (now (slice .entry)))) (λ v. deviceOf whole (now (script .entry)) v (now (slice .entry))) (worldAfter state (now (storage .entry)) (now (medium .entry)) writes) (now (slice .entry))) ⌝ }
 {
     let held = state.held;
     let out = state.out;
     let length = slice.len();
-    if storage.len() <= length {
-        let e = device::write(script, state.used, slice, medium, out);
-        let reply = e.reply;
+    if length < storage.len() {
+        bytes::copy(storage, held, slice, length);
         return Answered {
-            answer: write_answer(reply),
-            calls: writes + 1,
+            answer: stored_answer(whole, length),
+            calls: writes,
             state: State {
-                held,
-                out: out + device::moved(reply),
-                used: e.used,
+                held: held + length,
+                out,
+                used: state.used,
             },
         };
     }
-    bytes::copy(storage, held, slice, length);
-    Answered {
-        answer: Answer::Ok(length),
-        calls: writes,
-        state: State {
-            held: held + length,
-            out,
-            used: state.used,
-        },
-    }
-}
-
-// The same for `write_all`: the device write is the default one.
-fn place_all(
-    state: State,
-    storage: &mut [u8],
-    script: &[u32],
-    medium: &mut [u8],
-    slice: &[u8],
-    writes: usize,
-) -> Answered
-    requires { ⌜ Fit (now script) (worldAfter state (now storage) (now medium) writes) × (state .held + min (length (now slice)) (length (now storage)) ≤ length (now storage)) ⌝ }
-    ensures { λ r. ⌜ told r (now (storage .exit)) (now (medium .exit)) ≡ reported (placed done (λ v. deviceWriteAll (now (script .entry)) v (now (slice .entry))) (worldAfter state (now (storage .entry)) (now (medium .entry)) writes) (now (slice .entry))) ⌝ }
-{
-    let held = state.held;
-    let out = state.out;
-    if storage.len() <= slice.len() {
+    if whole {
         let f = send::send_all(slice, script, state.used, medium, out);
         let outcome = f.outcome;
         return Answered {
@@ -118,14 +101,15 @@ fn place_all(
             },
         };
     }
-    bytes::copy(storage, held, slice, slice.len());
+    let e = device::write(script, state.used, slice, medium, out);
+    let reply = e.reply;
     Answered {
-        answer: Answer::Done,
-        calls: writes,
+        answer: write_answer(reply),
+        calls: writes + 1,
         state: State {
-            held: held + slice.len(),
-            out,
-            used: state.used,
+            held,
+            out: out + device::moved(reply),
+            used: e.used,
         },
     }
 }
@@ -157,34 +141,16 @@ fn write_cold(
     script: &[u32],
     medium: &mut [u8],
     slice: &[u8],
+    whole: bool,
 ) -> Answered
     requires { ⌜ Sound (now script) (worldOf state (now storage) (now medium)) ⌝ }
-    ensures { λ r. ⌜ told r (now (storage .exit)) (now (medium .exit)) ≡ reported (cold (now (script .entry)) (ok (length (now (slice .entry)))) (λ v. deviceWrite (now (script .entry)) v (now (slice .entry))) (worldOf state (now (storage .entry)) (now (medium .entry))) (now (slice .entry))) ⌝ }
+    ensures { λ r. ⌜ told r (now (storage .exit)) (now (medium .exit)) ≡ reported (cold (now (script .entry)) (storedSaid whole (length (now (slice .entry)))) (λ v. deviceOf whole (now (script .entry)) v (now (slice .entry))) (worldOf state (now (storage .entry)) (now (medium .entry))) (now (slice .entry))) ⌝ }
 {
     let f = make_room(state, storage, script, medium, slice.len());
     let answer = f.answer;
     let ready = f.state;
     if flush::succeeded(answer) {
-        return place(ready, storage, script, medium, slice, f.calls);
-    }
-    f
-}
-
-fn write_all_cold(
-    state: State,
-    storage: &mut [u8],
-    script: &[u32],
-    medium: &mut [u8],
-    slice: &[u8],
-) -> Answered
-    requires { ⌜ Sound (now script) (worldOf state (now storage) (now medium)) ⌝ }
-    ensures { λ r. ⌜ told r (now (storage .exit)) (now (medium .exit)) ≡ reported (cold (now (script .entry)) done (λ v. deviceWriteAll (now (script .entry)) v (now (slice .entry))) (worldOf state (now (storage .entry)) (now (medium .entry))) (now (slice .entry))) ⌝ }
-{
-    let f = make_room(state, storage, script, medium, slice.len());
-    let answer = f.answer;
-    let ready = f.state;
-    if flush::succeeded(answer) {
-        return place_all(ready, storage, script, medium, slice, f.calls);
+        return place(ready, storage, script, medium, slice, whole, f.calls);
     }
     f
 }
@@ -250,7 +216,7 @@ pub fn write(
             },
         };
     }
-    write_cold(state, storage, script, medium, slice)
+    write_cold(state, storage, script, medium, slice, false)
 }
 
 pub fn write_all(
@@ -293,7 +259,7 @@ pub fn write_all(
             },
         };
     }
-    write_all_cold(state, storage, script, medium, slice)
+    write_cold(state, storage, script, medium, slice, true)
 }
 
 // The flush of the buffer, then the device's. What the first refuses or fails at is the answer.

@@ -32,8 +32,8 @@ returns-2 : tie.Need-returns-2
 unfolding writeAllCall writeAll
 returns-2 c = unrefused-is _ _ _ (c .before .before .before .before .before .before .before .before .before .before .before .before .args .state) _ _ (with-own _ _ _ _ _ _ _ _ _ _ (c .before .before .before .before .before .before .refusal .ensures) (c .before .before .before .before .before .before .before .length-refusal .ensures)) _ _ (c .before .before .before .before .before .if1 .left) (road-hot _ _ _ _ (c .before .before .before .before .before .before .before .before .before .before .before .before .args .state) _ _ _ _ (c .before .before .copy .ensures) (c .before .before .before .before .if2 .taken))
 
-write-all-cold-requires : tie.Need-write-all-cold-requires
-write-all-cold-requires c κs = unrefused-sound (c .before .before .before .before .before .before .before .before .before .before .args .script .now) (c .before .before .before .before .before .before .before .before .before .before .args .storage .now) (c .before .before .before .before .before .before .before .before .before .before .args .medium .now) (c .before .before .before .before .before .before .before .before .before .before .args .state) _ _ (c .before .before .before .before .refusal .ensures) (c .before .before .before .if1 .left)
+write-cold-requires : tie.Need-write-cold-requires
+write-cold-requires c κs = unrefused-sound (c .before .before .before .before .before .before .before .before .before .before .args .script .now) (c .before .before .before .before .before .before .before .before .before .before .args .storage .now) (c .before .before .before .before .before .before .before .before .before .before .args .medium .now) (c .before .before .before .before .before .before .before .before .before .before .args .state) _ _ (c .before .before .before .before .refusal .ensures) (c .before .before .before .if1 .left)
 
 same-length-2 : tie.Need-same-length-2
 same-length-2 c = search needs
@@ -43,7 +43,7 @@ same-length-3 c = search needs
 
 returns-3 : tie.Need-returns-3
 unfolding writeAllCall writeAll
-returns-3 c = unrefused-is _ _ _ (c .before .before .before .before .before .before .before .before .before .before .before .before .before .before .before .args .state) _ _ (with-own _ _ _ _ _ _ _ _ _ _ (c .before .before .before .before .before .before .before .before .before .refusal .ensures) (c .before .before .before .before .before .before .before .before .before .before .length-refusal .ensures)) _ _ (c .before .before .before .before .before .before .before .before .if1 .left) (road-cold _ _ _ _ _ _ (c .before .before .before .before .write-all-cold .ensures) (c .before .before .before .before .before .before .before .if2 .left))
+returns-3 c = unrefused-is _ _ _ (c .before .before .before .before .before .before .before .before .before .before .before .before .before .before .before .args .state) _ _ (with-own _ _ _ _ _ _ _ _ _ _ (c .before .before .before .before .before .before .before .before .before .refusal .ensures) (c .before .before .before .before .before .before .before .before .before .before .length-refusal .ensures)) _ _ (c .before .before .before .before .before .before .before .before .if1 .left) (road-cold _ _ _ _ _ _ (c .before .before .before .before .write-cold .ensures) (c .before .before .before .before .before .before .before .if2 .left))
 
 pub write-all-spec : {M : Type 1} → statement M
 write-all-spec =
@@ -57,7 +57,7 @@ write-all-spec =
     add-t19
     same-length
     returns-2
-    write-all-cold-requires
+    write-cold-requires
     same-length-2
     same-length-3
     returns-3)
