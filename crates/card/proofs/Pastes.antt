@@ -3,11 +3,12 @@
 use mathlib.Core.Path.{_≡_, refl, sym, ap, _∙_}
 use mathlib.Core.List.{List}
 use Prim.Native.Nat.{ℕ, _+_, _-_, _≤_, _<_}
-use native.Mathlib.Nat.{zero-add}
+use native.Mathlib.Nat.{add-zero, zero-add}
 use native.Mathlib.Omega.{arith}
 use lib.ListN.{length, take, drop, getD, set, length-set, length-drop}
+use lib.Seq.{drop-drop, getD-drop}
 use Rattle.laws.specs.Put.{put}
-use Rattle.laws.proofs.Puts.{put-none, put-over, put-same, put-more, take-put, length-put}
+use Rattle.laws.proofs.Puts.{put-none, put-over, put-same, put-more, take-put, drop-put, length-put}
 use Rattle.laws.proofs.Parts.{rest}
 
 -- the w bytes of s from place `from` on, pasted over the front of z
@@ -52,3 +53,41 @@ block d at s n i k w b x y p eb ey hk hi hn hd hs =
       here = pasted;
       long = ap length pasted ∙ length-put d at s (k + w) (omega arith) (omega arith);
     }
+
+-- The same where s is d's own from place `from` on, which the paste goes down to place `to`: what is read next is not
+-- yet overwritten.
+module _ (d : List ℕ) (to from n i : ℕ) (x : List ℕ) (p : Pasted d to (drop from d) n i x) (down : to ≤ from) (fits : from + n ≤ length d) where
+  inside : n ≤ length (drop from d)
+  inside = simp length-drop (omega arith)
+
+  unread : drop (from + i) x ≡ drop i (drop from d)
+  unread =
+      let within : i ≤ n = p .within in
+      let long = inside in
+      let far : to + i + (from - to) ≡ from + i = omega arith in
+      ap (λ (k : ℕ). drop k x) (sym far)
+      ∙ ap (λ (l : List ℕ). drop (to + i + (from - to)) l) (p .here)
+      ∙ sym (drop-drop (from - to) (to + i) (put d to (drop from d) i))
+      ∙ ap (λ (l : List ℕ). drop (from - to) l) (drop-put d to (drop from d) i (omega arith) (omega arith))
+      ∙ drop-drop (from - to) (to + i) d
+      ∙ ap (λ (k : ℕ). drop k d) far
+      ∙ sym (drop-drop i from d)
+
+  pub own-byte : i < n → Pasted d to (drop from d) n (i + 1) (set x (to + i) (getD x (from + i) 0))
+  own-byte h =
+      let long = inside in
+      let same : getD x (from + i) 0 ≡ getD (drop from d) i 0 =
+      ap (λ (k : ℕ). getD x k 0) (sym (add-zero (from + i)))
+      ∙ sym (getD-drop (from + i) x 0 0)
+      ∙ ap (λ (l : List ℕ). getD l 0 0) unread
+      ∙ getD-drop i (drop from d) 0 0
+      ∙ ap (λ (k : ℕ). getD (drop from d) k 0) (add-zero i) in
+      rw same (byte d to (drop from d) n i x p h (omega arith) long)
+
+  pub own-block : (w : ℕ) (b y : List ℕ) → take w b ≡ take w (drop (from + i) x) → y ≡ put x (to + i) b w → i + w ≤ n → Pasted d to (drop from d) n (i + w) y
+  own-block w b y eb ey h =
+      block d to (drop from d) n i i w b x y p (eb ∙ ap (λ (l : List ℕ). take w l) unread) ey (omega arith) (omega arith) h (omega arith) inside
+
+-- the same at the front
+pub front-block : (d : List ℕ) (from n i : ℕ) (x : List ℕ) → Pasted d 0 (drop from d) n i x → from + n ≤ length d → (w : ℕ) (b y : List ℕ) → take w b ≡ take w (drop (from + i) x) → y ≡ put x i b w → i + w ≤ n → Pasted d 0 (drop from d) n (i + w) y
+front-block d from n i x p fits w b y eb ey h = own-block d 0 from n i x p (omega arith) fits w b y eb (ey ∙ ap (λ (k : ℕ). put x k b w) (sym (zero-add i))) h

@@ -99,16 +99,33 @@ pub fn copy(dst: &mut [u8], at: usize, src: &[u8], n: usize)
     copy_exact(dst, at, src, count);
 }
 
-// The n bytes from place `from` on, moved to the front.
+// The n bytes from place `from` on, moved down to place `to`, byte by byte.
+fn shift_few(bytes: &mut [u8], to: usize, from: usize, n: usize)
+    requires { ⌜ (from + n ≤ length (now bytes)) × (to ≤ from) ⌝ }
+    ensures { λ _. ⌜ now (bytes .exit) ≡ put (now (bytes .entry)) to (drop from (now (bytes .entry))) n ⌝ }
+{
+    let mut i = 0;
+    while i < n {
+        bytes[to + i] = bytes[from + i];
+        i += 1;
+    }
+}
+
+// The n bytes from place `from` on, moved to the front, by blocks in ascending order: a block is
+// read whole before it is stored, and no later one is touched by that. What is left goes by bytes.
+// The number of turns is known before the first, so that the compiler makes several into one.
 fn shift_exact(bytes: &mut [u8], from: usize, n: usize)
     requires { ⌜ from + n ≤ length (now bytes) ⌝ }
     ensures { λ _. ⌜ now (bytes .exit) ≡ put (now (bytes .entry)) 0 (drop from (now (bytes .entry))) n ⌝ }
 {
+    let whole = n - n % 16;
     let mut i = 0;
-    while i < n {
-        bytes[i] = bytes[from + i];
-        i += 1;
+    while i < whole {
+        let block = read_block(bytes, from + i, 16);
+        store_block(bytes, i, block, 16);
+        i += 16;
     }
+    shift_few(bytes, i, from + i, n - i);
 }
 
 // The bytes from place `from` up to `to` moved to the front, for every input: nothing past the

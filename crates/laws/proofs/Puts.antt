@@ -80,16 +80,6 @@ getD-put-past d at s n j hd hs h =
     ∙ getD-drop (at + n) d (j - (at + n)) 0
     ∙ ap (λ (k : ℕ). getD d k 0) e
 
--- a turn of a loop that moves d's own bytes to its front, one at a time
-pub shift-more : (d x : List ℕ) (from i : ℕ) → x ≡ put d 0 (drop from d) i → from + i < length d → set x i (getD x (from + i) 0) ≡ put d 0 (drop from d) (i + 1)
-shift-more d x from i e h =
-    let long : i < length (drop from d) = simp length-drop (omega arith) in
-    let read : getD x (from + i) 0 ≡ getD (drop from d) i 0 = rw e (getD-put-past d 0 (drop from d) i (from + i) (omega arith) (omega arith) (omega arith) ∙ sym (getD-drop from d i 0)) in
-    ap (λ (v : ℕ). set x i v) read
-    ∙ ap (λ (l : List ℕ). set l i (getD (drop from d) i 0)) e
-    ∙ ap (λ (k : ℕ). set (put d 0 (drop from d) i) k (getD (drop from d) i 0)) (sym (zero-add i))
-    ∙ put-more d 0 (drop from d) i (omega arith) long
-
 -- a paste from bytes of which the first n are the same
 pub put-same : (d : List ℕ) (at : ℕ) (s t : List ℕ) (n : ℕ) → take n s ≡ take n t → put d at s n ≡ put d at t n
 unfolding put

@@ -1,21 +1,21 @@
 -- `writer::newline::lines_length` meets its contract. The loop's invariant: the last newline, if any, is before place i. Assumes nothing.
-use mathlib.Core.Path.{_≡_}
-use Prim.Native.Nat.{_≤_}
 use native.Mathlib.Omega.{arith}
-use lib.ListN.{length, take}
-use Rattle.writer.specs.Line.{linesLength}
-use Rattle.writer.proofs.Newlines.{search-begins, search-hit, search-miss, search-ends}
+use borrow.Author.Needs.{needs}
+use Rattle.writer.proofs.Newlines.{Searched, search-hit, search-miss, search-ends}
 use Rattle.writer.proofs.newline.lines_length.Statement.{statement}
 use Rattle.writer.proofs.newline.lines_length.Tie as tie
 
 abbrev Inv-loop : tie.InvT-loop
-Inv-loop s i₀ i = (i ≤ length s) × (linesLength s ≡ linesLength (take i s))
+Inv-loop s i₀ i = Searched s i
 
 abbrev μ-loop : tie.MeasureT-loop
 μ-loop s i₀ i = i
 
+last-block-requires : tie.Need-last-block-requires Inv-loop μ-loop
+last-block-requires c κs = search needs
+
 loop-holds : tie.Need-loop-holds Inv-loop μ-loop
-loop-holds c = (omega arith, search-begins _)
+loop-holds c = c .last-block .ensures
 
 sub-before : tie.Need-sub-before Inv-loop μ-loop
 sub-before c = omega arith
@@ -41,6 +41,7 @@ lines-length-spec =
     (tie.spec
     Inv-loop
     μ-loop
+    last-block-requires
     loop-holds
     sub-before
     shared-slice-read-if1
