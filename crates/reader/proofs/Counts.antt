@@ -1,19 +1,17 @@
 -- The device calls that a call reports are the replies that it took, plus one if it met the script's end.
 -- Assumes nothing.
 use mathlib.Core.Path.{_≡_, refl}
-use mathlib.Core.Bool.{Bool, true, false, _&&_}
+use mathlib.Core.Bool.{_&&_}
 use mathlib.Core.List.{List, [], _∷_}
-use Prim.Native.Nat.{ℕ, _+_, _-_, _<_, min}
+use Prim.Native.Nat.{ℕ, _+_, _-_, min}
 use native.Mathlib.Omega.{arith}
 use lib.Dec.{leb, eqb}
 use lib.IntN.{ℤ, pos, negsuc}
-use lib.ListN.{length, drop, getD}
-use borrow.Author.Tests.{leb-false, eqb-false, ne-eqb}
+use lib.ListN.{length, drop}
 use Rattle.laws.proofs.Picks.{pick-holds}
-use Rattle.laws.specs.Pick.{pick}
-use Rattle.card.specs.Answers.{Said}
-use Rattle.card.specs.Device.{replyOf, next, takes, atMost, exchange}
+use Rattle.card.specs.Device.{atMost, exchange}
 use Rattle.card.specs.Limits.{lengthRefusal}
+use Rattle.card.proofs.Ends.{ended, endedBy, exchange-counts}
 use Rattle.card.specs.declared.Reply.{Reply}
 use Rattle.card.specs.declared.Reply.the-variants.{Accept, Interrupted, Error}
 use Rattle.reader.specs.declared.State.{State}
@@ -23,28 +21,15 @@ use Rattle.reader.specs.Buffer.{count, discard, added, readMore}
 use Rattle.reader.specs.Reader.{handed, refusal, unless, fillBuf, consume, sought, seekRelative, shiftedBack, afterMore, peekTurn, peekLoop, peek, direct, copied, readUnrefused, read}
 use Rattle.reader.proofs.Peeks.{back-used, end-accepts}
 
--- 1 for an error of code 0, which only the script's end gives
-abbrev pub ended : Said → ℕ
-ended a = pick (eqb (getD a 0 0) 3 && eqb (getD a 1 1) 0) 1 0
-
--- no number of the script gives it
-no-end : (n most : ℕ) → ended (handed (atMost most (replyOf n))) ≡ 0
-unfolding replyOf atMost
-no-end n most = by (leb n 65535) (eqb n 65536) (λ e. leb-false n 65535 e) (λ e. eqb-false n 65536 e)
-  where
-    by : (b k : Bool) → (b ≡ false → 65535 < n) → (k ≡ false → n ≡ 65536 → ⊥) → ended (handed (atMost most (pick b (Accept n) (pick k Interrupted (Error (n - 65536)))))) ≡ 0
-    by true k h g = refl
-    by false true h g = refl
-    by false false h g =
-        let above : 65535 < n = h refl in
-        let other : n ≡ 65536 → ⊥ = g refl in
-        rw (ne-eqb (n - 65536) 0 (λ z. other (omega arith)))
+-- what is handed up ends with the reply
+handed-ended : (r : Reply) → ended (handed r) ≡ endedBy r
+handed-ended (Accept n) = refl
+handed-ended Interrupted = refl
+handed-ended (Error code) = refl
 
 -- one call of the device
-exchange-counts : (left : List ℕ) (used most : ℕ) → 1 + used ≡ exchange left used most .used + ended (handed (exchange left used most .reply))
-unfolding exchange next takes atMost
-exchange-counts [] used most = omega arith
-exchange-counts (n ∷ rest) used most = omega (arith, no-end n most)
+exchange-handed : (left : List ℕ) (used most : ℕ) → 1 + used ≡ exchange left used most .used + ended (handed (exchange left used most .reply))
+exchange-handed left used most = omega (arith, exchange-counts left used most, handed-ended (exchange left used most .reply))
 
 -- The replies taken since the script's position was `from`, and one more at its end
 Counts : ℕ → Fetched → Type 0
@@ -52,7 +37,7 @@ Counts from f = f .calls + from ≡ f .world .state .used + ended (handed (f .re
 
 more-counts : (left stock : List ℕ) (w : World) → Counts (w .state .used) (readMore left stock w)
 unfolding Counts readMore added
-more-counts left stock w = exchange-counts left (w .state .used) (min (length (w .storage) - w .state .filled) (length stock - w .state .taken))
+more-counts left stock w = exchange-handed left (w .state .used) (min (length (w .storage) - w .state .filled) (length stock - w .state .taken))
 
 more-one : (left stock : List ℕ) (w : World) → readMore left stock w .calls ≡ 1
 unfolding readMore added
@@ -126,7 +111,7 @@ seek-relative-reports script stock offset w = unless-reports _ w _ (rw (sought-u
 
 direct-reports : (script stock d : List ℕ) (w : World) → Reports w (direct script stock d w .called)
 unfolding direct Reports
-direct-reports script stock d w = exchange-counts (drop (w .state .used) script) (w .state .used) (min (length d) (length stock - w .state .taken))
+direct-reports script stock d w = exchange-handed (drop (w .state .used) script) (w .state .used) (min (length d) (length stock - w .state .taken))
 
 ended-cut : (most : ℕ) (r : Reply) → ended (handed (atMost most r)) ≡ ended (handed r)
 unfolding atMost

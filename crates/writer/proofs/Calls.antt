@@ -11,7 +11,7 @@ use lib.Dec.{eqb, ltb}
 use borrow.Author.Tests.{le-leb, lt-leb, le-ltb, lt-ltb, ltb-false}
 use Rattle.laws.specs.Put.{put}
 use Rattle.laws.proofs.Picks.{by-test, pick-holds}
-use Rattle.card.specs.Answers.{Said, said, ok, done}
+use Rattle.card.specs.Answers.{Said, said, done}
 use Rattle.card.specs.Limits.{refusalOf}
 use Rattle.card.specs.declared.Exchange.{Exchange}
 use Rattle.card.specs.Device.{exchange, moves}
