@@ -1,4 +1,4 @@
-//! Finds the port's static library where the driver is to be linked with it.
+//! Finds the port's static libraries, its calls and its sessions, where the driver is to be linked with them.
 
 use std::env;
 use std::path::Path;
@@ -11,7 +11,9 @@ fn main() {
     }
     let usual = Path::new(&env::var("CARGO_MANIFEST_DIR").unwrap()).join("../target/staticlib");
     let folder = env::var_os("PORT_LIBRARY").map_or(usual, Into::into);
-    println!("cargo::rerun-if-changed={}", folder.join("libstackglow.a").display());
     println!("cargo::rustc-link-search=native={}", folder.display());
-    println!("cargo::rustc-link-lib=static=stackglow");
+    for library in ["stackglow", "session"] {
+        println!("cargo::rerun-if-changed={}", folder.join(format!("lib{library}.a")).display());
+        println!("cargo::rustc-link-lib=static={library}");
+    }
 }

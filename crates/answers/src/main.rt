@@ -30,10 +30,10 @@ fn rest(request: &[u8]) -> &[u8] {
 fn answer_to(request: &[u8], output: &mut [u8]) -> usize {
     let letter = number::byte(request, 0);
     if letter == 115 {
-        return session::print_session(rest(request), output);
+        return session::stackglow_session(rest(request), output);
     }
     if letter == 106 {
-        return session::print_verdict(rest(request), output);
+        return session::stackglow_judge(rest(request), output);
     }
     if letter == 119 {
         return writing::answer(request, output);

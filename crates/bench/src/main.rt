@@ -22,6 +22,6 @@ fn main() {
     let mut input = input_room();
     let mut output = output_room();
     let n = io::read_full(STDIN_FILENO, &mut input);
-    let r = session::print_session(&input[..n], &mut output);
+    let r = session::stackglow_session(&input[..n], &mut output);
     io::write_all(STDOUT_FILENO, &output[..r]);
 }

@@ -20,10 +20,10 @@ text-once (traced start trace) x y a b = line-once trace x y a b
 text-once (session header replies stock calls) x y a b = a ∙ sym b
 
 module _ (output : List ℕ) (r s : ℕ) (o p : List ℕ) where
-  pub print-verdict-once : (trace : List ℕ) → Ruled trace output r o → Ruled trace output s p → _≡_ {A = Printed} (record { output = o; at = r }) (record { output = p; at = s })
-  print-verdict-once trace a b =
+  pub stackglow-judge-once : (trace : List ℕ) → Ruled trace output r o → Ruled trace output s p → _≡_ {A = Printed} (record { output = o; at = r }) (record { output = p; at = s })
+  stackglow-judge-once trace a b =
       a .is ∙ ap (λ (l : List ℕ). printed output 0 l) (line-once trace (a .text) (b .text) (a .right) (b .right)) ∙ sym (b .is)
 
-  pub print-session-once : (t : List ℕ) → Shown t output r o → Shown t output s p → _≡_ {A = Printed} (record { output = o; at = r }) (record { output = p; at = s })
-  print-session-once t a b =
+  pub stackglow-session-once : (t : List ℕ) → Shown t output r o → Shown t output s p → _≡_ {A = Printed} (record { output = o; at = r }) (record { output = p; at = s })
+  stackglow-session-once t a b =
       a .is ∙ ap (λ (l : List ℕ). printed output 0 l) (text-once (sessionOf t) (a .text) (b .text) (a .right) (b .right)) ∙ sym (b .is)

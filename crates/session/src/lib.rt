@@ -97,7 +97,8 @@ fn run(session: &[u8], header: Header, output: &mut [u8]) -> usize
 
 // The judge's line of a trace, at the front of the output and cut where the output ends; the
 // answer is where it ends.
-pub fn print_verdict(trace: &[u8], output: &mut [u8]) -> usize
+#[no_mangle]
+pub extern "C" fn stackglow_judge(trace: &[u8], output: &mut [u8]) -> usize
     ensures { λ r. ⌜ Ruled (now (trace .entry)) (now (output .entry)) r (now (output .exit)) ⌝ }
 {
     let verdict = judge::judge(trace);
@@ -110,13 +111,14 @@ pub fn print_verdict(trace: &[u8], output: &mut [u8]) -> usize
 
 // The text of a session, at the front of the output and cut where the output ends; the answer is
 // where it ends.
-pub fn print_session(session: &[u8], output: &mut [u8]) -> usize
+#[no_mangle]
+pub extern "C" fn stackglow_session(session: &[u8], output: &mut [u8]) -> usize
     ensures { λ r. ⌜ Shown (now (session .entry)) (now (output .entry)) r (now (output .exit)) ⌝ }
 {
     let checked = whole::check(session);
     match checked {
         Checked::Session(header) => run(session, header, output),
-        Checked::Traced(start) => print_verdict(part(session, start, session.len()), output),
+        Checked::Traced(start) => stackglow_judge(part(session, start, session.len()), output),
         Checked::Fault(place) => lines::session_refused(output, 0, place),
     }
 }

@@ -12,9 +12,6 @@ use Rattle.writer.specs.Writer.{writeCall, writeAllCall, flushCall}
 use Rattle.line.specs.Line.{lineWriteCall, lineWriteAllCall}
 use Rattle.reader.specs.World as Reader
 use Rattle.reader.specs.Reader.{fillBuf, consume, seekRelative, peek, read}
-use Rattle.session.proofs.Once.{print-session-once, print-verdict-once}
-use Rattle.session.specs.Session.{Ruled, Shown}
-use Rattle.text.specs.Printed.{Printed}
 use Rattle.stackglow.specs.Writing as Writing
 use Rattle.stackglow.specs.Reading as Reading
 
@@ -61,12 +58,3 @@ module _ (script stock : List ℕ) (w : Reader.World) (r q : Reading.Handed) whe
 
 pub read-one : (script stock destination : List ℕ) (w : Reader.World) (r q : Reading.HandedRead) → r ≡ Reading.handedRead (read script stock destination w) → q ≡ Reading.handedRead (read script stock destination w) → r ≡ q
 read-one script stock destination w = one (Reading.handedRead (read script stock destination w))
-
--- ---- sessions and traces: the promises are those of the functions that print them
-
-module _ (output : List ℕ) (r s : ℕ) (o p : List ℕ) where
-  pub session-one : (t : List ℕ) → Shown t output r o → Shown t output s p → _≡_ {A = Printed} (record { output = o; at = r }) (record { output = p; at = s })
-  session-one = print-session-once output r s o p
-
-  pub judge-one : (trace : List ℕ) → Ruled trace output r o → Ruled trace output s p → _≡_ {A = Printed} (record { output = o; at = r }) (record { output = p; at = s })
-  judge-one = print-verdict-once output r s o p

@@ -20,20 +20,20 @@ read-full-requires c κs = search needs
 array-share-prefix-input : tie.Need-array-share-prefix-input
 array-share-prefix-input c = search needs
 
-slice-aggregate-print-session : tie.Need-slice-aggregate-print-session
-slice-aggregate-print-session c = search needs
+slice-aggregate-stackglow-session : tie.Need-slice-aggregate-stackglow-session
+slice-aggregate-stackglow-session c = search needs
 
-slice-aggregate-print-session-2 : tie.Need-slice-aggregate-print-session-2
-slice-aggregate-print-session-2 c = search needs
+slice-aggregate-stackglow-session-2 : tie.Need-slice-aggregate-stackglow-session-2
+slice-aggregate-stackglow-session-2 c = search needs
 
-print-session-requires : tie.Need-print-session-requires
-print-session-requires c κs = search needs
+stackglow-session-requires : tie.Need-stackglow-session-requires
+stackglow-session-requires c κs = search needs
 
 array-share-prefix-output : tie.Need-array-share-prefix-output
-array-share-prefix-output c = ends-in _ _ _ _ (c .before .print-session .ensures)
+array-share-prefix-output c = ends-in _ _ _ _ (c .before .stackglow-session .ensures)
 
 slice-aggregate-write-all : tie.Need-slice-aggregate-write-all
-slice-aggregate-write-all c = part-long _ _ (ends-in _ _ _ _ (c .before .before .print-session .ensures))
+slice-aggregate-write-all c = part-long _ _ (ends-in _ _ _ _ (c .before .before .stackglow-session .ensures))
 
 write-all-requires : tie.Need-write-all-requires
 write-all-requires c κs = search needs
@@ -50,9 +50,9 @@ main-spec =
     slice-aggregate-read-full
     read-full-requires
     array-share-prefix-input
-    slice-aggregate-print-session
-    slice-aggregate-print-session-2
-    print-session-requires
+    slice-aggregate-stackglow-session
+    slice-aggregate-stackglow-session-2
+    stackglow-session-requires
     array-share-prefix-output
     slice-aggregate-write-all
     write-all-requires

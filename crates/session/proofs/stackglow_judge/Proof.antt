@@ -1,10 +1,10 @@
--- `session::print_verdict` meets its contract. Assumes nothing.
+-- `session::stackglow_judge` meets its contract. Assumes nothing.
 use mathlib.Core.Path.{refl}
 use Rattle.judge.specs.declared.Verdict.the-variants.{Possible, Impossible, Refused}
 use Rattle.session.proofs.Shows.{ruled}
 use borrow.Author.Needs.{needs}
-use Rattle.session.proofs.print_verdict.Statement.{statement}
-use Rattle.session.proofs.print_verdict.Tie as tie
+use Rattle.session.proofs.stackglow_judge.Statement.{statement}
+use Rattle.session.proofs.stackglow_judge.Tie as tie
 
 judge-requires : tie.Need-judge-requires
 judge-requires c κs = search needs
@@ -45,8 +45,8 @@ same-length-3 c = search needs
 returns-3 : tie.Need-returns-3
 returns-3 c = ruled _ _ _ _ (c .before .before .before .before .before .before .before .judge .result) (Refused (c .before .before .before .before .before .verdict .given .0 .0)) _ (c .before .before .before .before .before .before .before .judge .ensures) (c .before .before .before .before .before .verdict .given .1) refl (c .before .before .judge-refused .ensures)
 
-pub print-verdict-spec : {M : Type 1} → statement M
-print-verdict-spec =
+pub stackglow-judge-spec : {M : Type 1} → statement M
+stackglow-judge-spec =
     tie.close
     (tie.spec
     judge-requires
