@@ -6,10 +6,9 @@ use mathlib.Core.List.{List}
 use Prim.Native.Nat.{ℕ}
 use lib.IntN.{ℤ}
 use Rattle.card.proofs.Sames.{one}
-use Rattle.flushing.specs.World.{World, Called, reported}
+use Rattle.flushing.specs.World.{World, Called, Told, reported}
 use Rattle.flushing.specs.Flush.{flushBufCall}
 use Rattle.writer.specs.Writer.{writeCall, writeAllCall, flushCall}
-use Rattle.line.specs.Line.{lineWriteCall, lineWriteAllCall}
 use Rattle.reader.specs.World as Reader
 use Rattle.reader.specs.Reader.{fillBuf, consume, seekRelative, peek, read}
 use Rattle.stackglow.specs.Writing as Writing
@@ -35,11 +34,9 @@ module _ (script : List ℕ) (w : World) (r q : Writing.Handed) where
     pub write-all-one : r ≡ Writing.handed (reported (writeAllCall script w slice)) → q ≡ Writing.handed (reported (writeAllCall script w slice)) → r ≡ q
     write-all-one = two (writeAllCall script w slice)
 
-    pub line-write-one : r ≡ Writing.handed (reported (lineWriteCall script w slice)) → q ≡ Writing.handed (reported (lineWriteCall script w slice)) → r ≡ q
-    line-write-one = two (lineWriteCall script w slice)
-
-    pub line-write-all-one : r ≡ Writing.handed (reported (lineWriteAllCall script w slice)) → q ≡ Writing.handed (reported (lineWriteAllCall script w slice)) → r ≡ q
-    line-write-all-one = two (lineWriteAllCall script w slice)
+-- what was told, handed over, with whatever bytes were lent
+pub hand-one : (t : List ℕ → List ℕ → Told) (r q : List ℕ → List ℕ → Writing.Handed) → ((storage medium : List ℕ) → r storage medium ≡ Writing.handed (t storage medium)) → ((storage medium : List ℕ) → q storage medium ≡ Writing.handed (t storage medium)) → (storage medium : List ℕ) → r storage medium ≡ q storage medium
+hand-one t r q e f storage medium = one (Writing.handed (t storage medium)) (r storage medium) (q storage medium) (e storage medium) (f storage medium)
 
 -- ---- the reader's calls
 

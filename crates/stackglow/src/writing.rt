@@ -1,10 +1,9 @@
-// The writers' calls. The state's numbers go in and out through `held`, `out` and `used`; `value`
+// The writer's calls. The state's numbers go in and out through `held`, `out` and `used`; `value`
 // and `calls` only go out, and what they had does not matter.
 use crate::answer;
 use flushing::Answered;
 use flushing::State;
 use flushing::flush;
-use line::linewriter;
 use writer::bufwriter;
 ghost use mathlib.Core.Path.{_≡_};
 ghost use mathlib.Core.List.{List};
@@ -12,11 +11,10 @@ ghost use Prim.Native.Nat.{ℕ};
 ghost use Rattle.flushing.specs.World.{worldOf, told, reported};
 ghost use Rattle.flushing.specs.Flush.{flushBufCall};
 ghost use Rattle.writer.specs.Writer.{writeCall, writeAllCall, flushCall};
-ghost use Rattle.line.specs.Line.{lineWriteCall, lineWriteAllCall};
 ghost use Rattle.stackglow.specs.Writing.{handed, stateOf};
 
 // What a call left, put where the caller looks for it; the answer's number is returned.
-fn hand(
+pub fn hand(
     a: Answered,
     held: &mut usize,
     out: &mut usize,
@@ -123,51 +121,5 @@ pub extern "C" fn stackglow_flush(
         used: *used,
     };
     let a = bufwriter::flush(state, storage, script, medium);
-    hand(a, held, out, used, value, calls)
-}
-
-#[no_mangle]
-pub extern "C" fn stackglow_line_write(
-    held: &mut usize,
-    out: &mut usize,
-    used: &mut usize,
-    storage: &mut [u8],
-    script: &[u32],
-    medium: &mut [u8],
-    slice: &[u8],
-    value: &mut usize,
-    calls: &mut usize,
-) -> u32
-    ensures { λ r. ⌜ record { number = r; value = now (value .exit); calls = now (calls .exit); held = now (held .exit); out = now (out .exit); used = now (used .exit); storage = now (storage .exit); medium = now (medium .exit) } ≡ handed (reported (lineWriteCall (now (script .entry)) (worldOf (stateOf (now (held .entry)) (now (out .entry)) (now (used .entry))) (now (storage .entry)) (now (medium .entry))) (now (slice .entry)))) ⌝ }
-{
-    let state = State {
-        held: *held,
-        out: *out,
-        used: *used,
-    };
-    let a = linewriter::write(state, storage, script, medium, slice);
-    hand(a, held, out, used, value, calls)
-}
-
-#[no_mangle]
-pub extern "C" fn stackglow_line_write_all(
-    held: &mut usize,
-    out: &mut usize,
-    used: &mut usize,
-    storage: &mut [u8],
-    script: &[u32],
-    medium: &mut [u8],
-    slice: &[u8],
-    value: &mut usize,
-    calls: &mut usize,
-) -> u32
-    ensures { λ r. ⌜ record { number = r; value = now (value .exit); calls = now (calls .exit); held = now (held .exit); out = now (out .exit); used = now (used .exit); storage = now (storage .exit); medium = now (medium .exit) } ≡ handed (reported (lineWriteAllCall (now (script .entry)) (worldOf (stateOf (now (held .entry)) (now (out .entry)) (now (used .entry))) (now (storage .entry)) (now (medium .entry))) (now (slice .entry)))) ⌝ }
-{
-    let state = State {
-        held: *held,
-        out: *out,
-        used: *used,
-    };
-    let a = linewriter::write_all(state, storage, script, medium, slice);
     hand(a, held, out, used, value, calls)
 }

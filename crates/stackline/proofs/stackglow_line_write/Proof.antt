@@ -1,10 +1,10 @@
--- `stackglow::writing::stackglow_line_write` meets its contract. Assumes nothing.
+-- `stackline::stackglow_line_write` meets its contract. Assumes nothing.
 use mathlib.Core.Path.{ap, _∙_}
 use Rattle.flushing.specs.World.{Told}
 use Rattle.stackglow.specs.Writing.{handed}
 use borrow.Author.Needs.{needs}
-use Rattle.stackglow.proofs.writing.stackglow_line_write.Statement.{statement}
-use Rattle.stackglow.proofs.writing.stackglow_line_write.Tie as tie
+use Rattle.stackline.proofs.stackglow_line_write.Statement.{statement}
+use Rattle.stackline.proofs.stackglow_line_write.Tie as tie
 
 write-requires : tie.Need-write-requires
 write-requires c κs = search needs

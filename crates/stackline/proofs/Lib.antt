@@ -1,0 +1,2 @@
+-- `Sames`: no second answer.
+pub mod Sames
