@@ -26,7 +26,7 @@ impl Linked {
 
 impl Port for Linked {
     fn name(&self) -> String {
-        "its library, linked".into()
+        "its libraries, linked".into()
     }
 
     fn answers(&mut self, requests: &[Vec<u8>]) -> Vec<Vec<u8>> {

@@ -34,13 +34,6 @@ deviceWriteAll script w s = takenBy w s (sendFrom (replies script w) (length s) 
 abbrev pub stored : Said → World → List ℕ → Called
 stored answer w s = record { answer = answer; world = kept w s (length s) }
 
--- Of both, by whether it is `write_all`: what a stored slice answers, and the device write
-abbrev pub storedSaid : Bool → ℕ → Said
-storedSaid whole n = pick whole done (ok n)
-
-abbrev pub deviceOf : Bool → List ℕ → World → List ℕ → Called
-deviceOf whole script w s = pick whole (deviceWriteAll script w s) (deviceWrite script w s)
-
 -- "Then length >= capacity makes one device write whose answer is handed up, interrupted included; a smaller slice is stored"
 unfoldable pub placed : Said → (World → Called) → World → List ℕ → Called
 placed answer device w s = pick (leb (capacity w) (length s)) (device w) (stored answer w s)
@@ -97,3 +90,12 @@ writeAllCall script w s = refusing script w (lengthRefusal (length s)) (λ v. wr
 
 unfoldable pub flushCall : List ℕ → World → Called
 flushCall script w = refusing script w 0 (λ v. flush script v)
+
+-- ---- how the code says it, which has one way past the buffer for both
+
+-- by whether it is `write_all`: what a stored slice answers, and the device write
+abbrev pub storedSaid : Bool → ℕ → Said
+storedSaid whole n = pick whole done (ok n)
+
+abbrev pub deviceOf : Bool → List ℕ → World → List ℕ → Called
+deviceOf whole script w s = pick whole (deviceWriteAll script w s) (deviceWrite script w s)
