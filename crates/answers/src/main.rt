@@ -1,5 +1,7 @@
 // Answers requests, one after the other, until its input ends: each comes after its length, and
 // its answer goes out after its own. A request is a letter and what it needs.
+#![tactic(auto)]
+
 mod answer;
 mod fields;
 mod number;

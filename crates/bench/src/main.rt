@@ -1,4 +1,6 @@
 // The bench program: standard input is one session, and its lines are printed.
+#![tactic(auto)]
+
 ghost use Rattle.std.specs.Prelude.{◌≡◌, length};
 
 use libc::{STDIN_FILENO, STDOUT_FILENO};

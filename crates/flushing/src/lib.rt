@@ -1,13 +1,15 @@
 // What both writers stand on: their state, runs of device writes, and the flush of the buffer,
 // after std's bufwriter.rs. The state goes in and comes back by value; storage, script and medium
 // are lent.
+#![tactic(auto)]
+
 pub mod flush;
 pub mod send;
 
 use card::Answer;
 
 // Bytes held in the storage, bytes out on the medium, replies used of the script.
-#[derive(Drop)]
+#[derive(Clone, Copy)]
 pub struct State {
     pub held: usize,
     pub out: usize,
@@ -15,7 +17,7 @@ pub struct State {
 }
 
 // A call's answer, how many device calls it made, and the new state.
-#[derive(Drop)]
+#[derive(Clone, Copy)]
 pub struct Answered {
     pub answer: Answer,
     pub calls: usize,
@@ -23,7 +25,7 @@ pub struct Answered {
 }
 
 // How a run of device writes was left.
-#[derive(Drop)]
+#[derive(Clone, Copy)]
 pub enum Outcome {
     Done,
     Zero,
@@ -32,7 +34,7 @@ pub enum Outcome {
 
 // A run of device writes: its outcome, the bytes taken, the script's position after it, and the
 // device writes made.
-#[derive(Drop)]
+#[derive(Clone, Copy)]
 pub struct Sent {
     pub outcome: Outcome,
     pub sent: usize,

@@ -1,6 +1,8 @@
 // The form of a session, the bench program's input. A session is read left to right, with the
 // place of its first fault, and without memory for its calls: `whole::check` reads it all,
 // `replies::read_replies` hands out its replies, `calls::read_call` reads one call again.
+#![tactic(auto)]
+
 pub mod calls;
 mod parts;
 pub mod replies;
@@ -8,7 +10,7 @@ pub mod whole;
 
 // One call of a session. The bytes of a write are the session's, from a start on, so many as the
 // length says: `Write(start, length)`. A seek's first value is true for back, false for on.
-#[derive(Drop)]
+#[derive(Clone, Copy)]
 pub enum Call {
     Write(usize, usize),
     WriteAll(usize, usize),
@@ -21,14 +23,14 @@ pub enum Call {
 }
 
 // A call with the place after it, or the place of a fault.
-#[derive(Drop)]
+#[derive(Clone, Copy)]
 pub enum CallRead {
     Found(Call, usize),
     Fault(usize),
 }
 
 // The place after so many replies or calls, or the place of the first fault among them.
-#[derive(Drop)]
+#[derive(Clone, Copy)]
 pub enum End {
     At(usize),
     Fault(usize),
@@ -38,7 +40,7 @@ pub enum End {
 // capacity; how many replies there are and where the first stands; where the stock's bytes stand
 // and how many they are (none, after the replies, for a writer); how many calls there are and
 // where the first stands.
-#[derive(Drop)]
+#[derive(Clone, Copy)]
 pub struct Header {
     pub kind: usize,
     pub capacity: usize,
@@ -52,7 +54,7 @@ pub struct Header {
 
 // A session without a fault; the place where the trace of kind 3 starts, of which nothing is
 // checked here; or the place of the first fault (refusal 6).
-#[derive(Drop)]
+#[derive(Clone, Copy)]
 pub enum Checked {
     Session(Header),
     Traced(usize),

@@ -1,4 +1,6 @@
 // The judge: whether some finite list of card replies explains a trace.
+#![tactic(auto)]
+
 mod flags;
 mod walk;
 
@@ -10,7 +12,7 @@ ghost use Rattle.judge.specs.Flags.{OfBytes, Ruled};
 use card::bytes;
 use trace::{Checked, whole};
 
-#[derive(Drop)]
+#[derive(Clone, Copy)]
 pub enum Verdict {
     Possible,
     Impossible,
@@ -19,7 +21,7 @@ pub enum Verdict {
 
 // What comparing the card with the answered bytes finds: it begins them, and they are so many; or
 // it does not.
-#[derive(Drop)]
+#[derive(Clone, Copy)]
 pub enum Matched {
     Agrees(usize),
     Differs,

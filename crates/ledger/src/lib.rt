@@ -1,1 +1,2 @@
 // The ledger of both writers. No functions.
+#![tactic(auto)]

@@ -1,11 +1,13 @@
 // Numbers in groups of seven bits, as traces and sessions hold them, with the place of a fault.
 // Every public function is total: it asks nothing of the bytes nor of the place.
+#![tactic(auto)]
+
 ghost use Rattle.std.specs.Prelude.{◌≡◌, ◌&&◌, ◌+◌, ◌<◌, ◌^◌, eqb, ltb};
 ghost use Rattle.numbers.specs.Number.{ended, number_of, number, number_most};
 ghost use Rattle.numbers.specs.Width.{Width};
 
 // What reading a number finds.
-#[derive(Drop)]
+#[derive(Clone, Copy)]
 pub enum Number {
     // The value, and the place after the number's last byte.
     Value(usize, usize),

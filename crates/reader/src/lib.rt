@@ -1,6 +1,8 @@
 // The buffered reader of document 01, modules 1 and 2, on the reading side of the scripted card.
 // Every public function is total: what a call refuses it refuses by number, and its promise says
 // the answer, the device calls, the state and every lent byte on every input.
+#![tactic(auto)]
+
 mod buffer;
 
 ghost use Rattle.std.specs.Prelude.{◌≡◌, List, ℕ, ◌≤◌, nat_abs, length, drop};
@@ -16,7 +18,7 @@ use card::{Answer, Reply, bytes, device, limits};
 
 // What a reader knows between calls: its place in the storage and how much of that is filled,
 // the bytes taken of the stock, and the replies used of the script.
-#[derive(Drop)]
+#[derive(Clone, Copy)]
 pub struct State {
     pub pos: usize,
     pub filled: usize,
@@ -25,7 +27,7 @@ pub struct State {
 }
 
 // A call of the reader: its answer, the device calls that it made, and the state after it.
-#[derive(Drop)]
+#[derive(Clone, Copy)]
 pub struct Answered {
     pub answer: Answer,
     pub calls: usize,
@@ -33,7 +35,7 @@ pub struct Answered {
 }
 
 // A call of the buffer: what it hands up, the device calls that it made, and the state after it.
-#[derive(Drop)]
+#[derive(Clone, Copy)]
 struct Fetch {
     reply: Reply,
     calls: usize,

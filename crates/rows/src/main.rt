@@ -1,5 +1,7 @@
 // Runs every row of the bench sheet through the public functions, and prints a line for each call:
 // the row's number, the call, and what it left. Bytes are in hex, no bytes are `-`.
+#![tactic(auto)]
+
 mod print;
 mod readers;
 mod traces;

@@ -1,4 +1,6 @@
 // Sessions of the bench program: checked first, then run one call at a time, a line for each.
+#![tactic(auto)]
+
 mod reading;
 mod writing;
 

@@ -15,7 +15,7 @@ use reader::{Answered, State};
 use text::{Name, lines};
 
 // The state that a call leaves, and the place after its line.
-#[derive(Drop)]
+#[derive(Clone, Copy)]
 pub struct Moved {
     pub state: State,
     pub at: usize,

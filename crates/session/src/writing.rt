@@ -15,7 +15,7 @@ use text::{Name, lines};
 use writer::bufwriter;
 
 // The state that a call leaves, and the place after its line.
-#[derive(Drop)]
+#[derive(Clone, Copy)]
 pub struct Stepped {
     pub state: State,
     pub at: usize,

@@ -1,6 +1,8 @@
 // The line writer's calls as others link them, in an archive of their own: the compiler makes the
 // plain writer's call faster where the line writer does not call it too. Their shape is that of
 // `stackglow`'s; the flush is `stackglow_flush`.
+#![tactic(auto)]
+
 ghost use Rattle.std.specs.Prelude.{◌≡◌};
 ghost use Rattle.flushing.specs.World.{world_of, reported};
 ghost use Rattle.line.specs.Line.{line_write_call, line_write_all_call};

@@ -1,12 +1,14 @@
 // Traces: what a person hands to the judge. A trace is read left to right, with the place of its
 // first fault, and without memory for its calls: `whole::check` reads it all, `calls::read_call`
 // reads one call again.
+#![tactic(auto)]
+
 pub mod calls;
 mod claims;
 pub mod whole;
 
 // The answer that a traced call claims. Ok has its count for a write; a flush is Done.
-#[derive(Drop)]
+#[derive(Clone, Copy)]
 pub enum Claim {
     Ok(usize),
     Done,
@@ -16,7 +18,7 @@ pub enum Claim {
 }
 
 // A claimed answer with the place after it, or the place of a fault.
-#[derive(Drop)]
+#[derive(Clone, Copy)]
 pub enum ClaimRead {
     Claimed(Claim, usize),
     Fault(usize),
@@ -24,7 +26,7 @@ pub enum ClaimRead {
 
 // One call of a trace. The bytes of a write are the trace's `length` bytes from place `start` on;
 // a flush has none. It carries its claimed answer. `next` is the place after it.
-#[derive(Drop)]
+#[derive(Clone, Copy)]
 pub struct TracedCall {
     pub flush: bool,
     pub start: usize,
@@ -34,7 +36,7 @@ pub struct TracedCall {
 }
 
 // A call, or the place of a fault.
-#[derive(Drop)]
+#[derive(Clone, Copy)]
 pub enum CallRead {
     Call(TracedCall),
     Fault(usize),
@@ -42,7 +44,7 @@ pub enum CallRead {
 
 // What a whole trace holds beside its calls: the capacity, how many calls there are and where the
 // first stands, and where the card's bytes stand and how many they are.
-#[derive(Drop)]
+#[derive(Clone, Copy)]
 pub struct Header {
     pub capacity: usize,
     pub count: usize,
@@ -52,7 +54,7 @@ pub struct Header {
 }
 
 // A trace without a fault, or the place of its first fault (refusal 7).
-#[derive(Drop)]
+#[derive(Clone, Copy)]
 pub enum Checked {
     Whole(Header),
     Fault(usize),
