@@ -1,0 +1,16 @@
+use Prim.Native.Nat.{◌-◌}
+use native.Mathlib.Omega.{arith}
+use Rattle.card.proofs.Pastes.{begins, byte, ends}
+use Rattle.card.proofs.bytes.copy_few.Goals as goal
+
+pub loop-i-init : goal.loop-i-init
+loop-i-init c = begins _ _ _ _
+
+pub loop-i-preserved : goal.loop-i-preserved
+loop-i-preserved c = byte _ _ _ _ _ _ c.loop-i.invariant (omega arith) (omega arith) (omega arith)
+
+pub shape_of-dst : goal.shape_of-dst
+shape_of-dst c = c.loop-i.invariant.long
+
+pub returns : goal.returns
+returns c = ends _ _ _ _ _ _ c.loop-i.invariant (omega arith)
