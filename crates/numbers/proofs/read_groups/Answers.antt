@@ -5,13 +5,13 @@ use Rattle.numbers.proofs.Groups.{start, over, finish, again, cut, fits, weight_
 use Rattle.numbers.proofs.read_groups.Goals as goal
 
 pub loop-place-preserved : goal.loop-place-preserved
-loop-place-preserved c = again c.loop-place.invariant c.loop-place-test.true c.requires (sym c.past.ensures ∙ c.if-past.false) c.if-byte-lt128.false (omega (arith, c.shared_slice_known-in-loop-place-1.given c.loop-place.place))
+loop-place-preserved c = again c.loop-place.invariant c.loop-place-test.true c.requires (sym c.past.ensures ∙ c.if-past.false) c.if-byte-lt128.false (omega (arith, c.type_inv.bytes c.loop-place.place))
 
 pub loop-place-init : goal.loop-place-init
 loop-place-init c = start _ _ _ _ c.requires
 
 pub overflow_cast-byte : goal.overflow_cast-byte
-overflow_cast-byte c = omega (arith, c.shared_slice_known-in-loop-place-1.given c.loop-place.place)
+overflow_cast-byte c = omega (arith, c.type_inv.bytes c.loop-place.place)
 
 pub returns-then-past : goal.returns-then-past
 returns-then-past c = over c.loop-place.invariant c.loop-place-test.true (sym c.past.ensures ∙ c.if-past.true)
@@ -27,17 +27,17 @@ returns-then-byte-lt128 c = finish c.loop-place.invariant c.loop-place-test.true
 
 pub overflow_mul-value : goal.overflow_mul-value
 overflow_mul-value c =
-    let next = loop-again c in
+    let next = loop-place-preserved c in
     omega (arith, next.below, weight_fits c.requires next)
 
 pub overflow_add-value-in-loop-place : goal.overflow_add-value-in-loop-place
 overflow_add-value-in-loop-place c =
-    let next = loop-again c in
+    let next = loop-place-preserved c in
     omega (arith, next.below, weight_fits c.requires next)
 
 pub overflow_mul-weight : goal.overflow_mul-weight
 overflow_mul-weight c =
-    let next = loop-again c in
+    let next = loop-place-preserved c in
     omega (arith, weight_fits c.requires next)
 
 pub overflow_sub-left : goal.overflow_sub-left
