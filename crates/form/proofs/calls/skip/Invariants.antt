@@ -1,0 +1,10 @@
+-- `form::calls::skip` meets its contract. The loop's invariant is `Turn`: the whole ends where the rest ends. Assumes nothing.
+use Rattle.form.proofs.Walks.{Turn}
+use Rattle.form.specs.Calls.{calls_from}
+use Rattle.form.proofs.calls.skip.Given as goal
+
+abbrev pub invariant-loop-left : goal.invariant-loop-left
+invariant-loop-left l = Turn (calls_from l.session l.kind) l.count l.first l.left l.at
+
+abbrev pub decreases-loop-left : goal.decreases-loop-left
+decreases-loop-left l = l.left
