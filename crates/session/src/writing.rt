@@ -55,7 +55,7 @@ fn write_all(
 
 // The line of a call.
 fn line(output: &mut [u8], at: usize, name: Name, a: Answered) -> Stepped
-    ensures { (record { output = output.exit.now; at = result.at } ≡ printed output.entry.now at (writer_line name (said a.answer) a.calls a.state.held a.state.out)) × (result.state ≡ a.state) }
+    ensures { (record { output = output.new; at = result.at } ≡ printed output.old at (writer_line name (said a.answer) a.calls a.state.held a.state.out)) × (result.state ≡ a.state) }
 {
     let answer = a.answer;
     let state = a.state;

@@ -94,7 +94,7 @@ pub extern "C" fn stackglow_read(
     value: &mut usize,
     calls: &mut usize,
 ) -> u32
-    ensures { record { destination = destination.exit.now; call = record { number = result; value = value.new; calls = calls.new; pos = pos.new; filled = filled.new; taken = taken.new; used = used.new; storage = storage.new } } ≡ handed_read (read script.now stock.now destination.entry.now (world storage.old (state_of pos.old filled.old taken.old used.old))) }
+    ensures { record { destination = destination.new; call = record { number = result; value = value.new; calls = calls.new; pos = pos.new; filled = filled.new; taken = taken.new; used = used.new; storage = storage.new } } ≡ handed_read (read script.now stock.now destination.old (world storage.old (state_of pos.old filled.old taken.old used.old))) }
 {
     let state = State {
         pos: *pos,

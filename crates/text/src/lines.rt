@@ -9,7 +9,7 @@ use card::Answer;
 
 // `session K capacity C`
 pub fn session(output: &mut [u8], at: usize, kind: usize, capacity: usize) -> usize
-    ensures { record { output = output.exit.now; at = result } ≡ printed output.entry.now at (session_line kind capacity) }
+    ensures { record { output = output.new; at = result } ≡ printed output.old at (session_line kind capacity) }
 {
     let next = parts::say_number(output, at, b"session ", kind);
     let next = parts::say_number(output, next, b" capacity ", capacity);
@@ -18,7 +18,7 @@ pub fn session(output: &mut [u8], at: usize, kind: usize, capacity: usize) -> us
 
 // `NAME ANSWER`, with which a call's line opens.
 fn call(output: &mut [u8], at: usize, name: Name, answer: Answer) -> usize
-    ensures { record { output = output.exit.now; at = result } ≡ printed output.entry.now at (call_of name (said answer)) }
+    ensures { record { output = output.new; at = result } ≡ printed output.old at (call_of name (said answer)) }
 {
     let next = parts::name(output, at, name);
     let next = parts::say(output, next, b" ");
@@ -27,7 +27,7 @@ fn call(output: &mut [u8], at: usize, name: Name, answer: Answer) -> usize
 
 // ` calls C` of a writer's line.
 fn writer_calls(output: &mut [u8], at: usize, calls: usize) -> usize
-    ensures { record { output = output.exit.now; at = result } ≡ printed output.entry.now at (writer_calls calls) }
+    ensures { record { output = output.new; at = result } ≡ printed output.old at (writer_calls calls) }
 {
     parts::say_number(output, at, b" calls ", calls)
 }
@@ -42,7 +42,7 @@ pub fn writer(
     held: usize,
     out: usize,
 ) -> usize
-    ensures { record { output = output.exit.now; at = result } ≡ printed output.entry.now at (writer_line name (said answer) calls held out) }
+    ensures { record { output = output.new; at = result } ≡ printed output.old at (writer_line name (said answer) calls held out) }
 {
     let next = call(output, at, name, answer);
     let next = writer_calls(output, next, calls);
@@ -62,7 +62,7 @@ pub fn reader(
     filled: usize,
     bytes: &[u8],
 ) -> usize
-    ensures { record { output = output.exit.now; at = result } ≡ printed output.entry.now at (reader_line name (said answer) calls pos filled bytes.now) }
+    ensures { record { output = output.new; at = result } ≡ printed output.old at (reader_line name (said answer) calls pos filled bytes.now) }
 {
     let next = call(output, at, name, answer);
     let next = parts::say_number(output, next, b" calls ", calls);
@@ -74,7 +74,7 @@ pub fn reader(
 
 // `end held HEX out HEX`
 pub fn writer_end(output: &mut [u8], at: usize, held: &[u8], out: &[u8]) -> usize
-    ensures { record { output = output.exit.now; at = result } ≡ printed output.entry.now at (writer_end held.now out.now) }
+    ensures { record { output = output.new; at = result } ≡ printed output.old at (writer_end held.now out.now) }
 {
     let next = parts::say_hex(output, at, b"end held ", held);
     let next = parts::say_hex(output, next, b" out ", out);
@@ -83,7 +83,7 @@ pub fn writer_end(output: &mut [u8], at: usize, held: &[u8], out: &[u8]) -> usiz
 
 // `end held HEX taken N`
 pub fn reader_end(output: &mut [u8], at: usize, held: &[u8], taken: usize) -> usize
-    ensures { record { output = output.exit.now; at = result } ≡ printed output.entry.now at (reader_end held.now taken) }
+    ensures { record { output = output.new; at = result } ≡ printed output.old at (reader_end held.now taken) }
 {
     let next = parts::say_hex(output, at, b"end held ", held);
     let next = parts::say_number(output, next, b" taken ", taken);
@@ -92,21 +92,21 @@ pub fn reader_end(output: &mut [u8], at: usize, held: &[u8], taken: usize) -> us
 
 // `judge possible`
 pub fn judge_possible(output: &mut [u8], at: usize) -> usize
-    ensures { record { output = output.exit.now; at = result } ≡ printed output.entry.now at judge_possible }
+    ensures { record { output = output.new; at = result } ≡ printed output.old at judge_possible }
 {
     parts::say(output, at, b"judge possible\n")
 }
 
 // `judge impossible`
 pub fn judge_impossible(output: &mut [u8], at: usize) -> usize
-    ensures { record { output = output.exit.now; at = result } ≡ printed output.entry.now at judge_impossible }
+    ensures { record { output = output.new; at = result } ≡ printed output.old at judge_impossible }
 {
     parts::say(output, at, b"judge impossible\n")
 }
 
 // `judge refused 7 at P`
 pub fn judge_refused(output: &mut [u8], at: usize, place: usize) -> usize
-    ensures { record { output = output.exit.now; at = result } ≡ printed output.entry.now at (judge_refused place) }
+    ensures { record { output = output.new; at = result } ≡ printed output.old at (judge_refused place) }
 {
     let next = parts::say_number(output, at, b"judge refused 7 at ", place);
     parts::say(output, next, b"\n")
@@ -114,7 +114,7 @@ pub fn judge_refused(output: &mut [u8], at: usize, place: usize) -> usize
 
 // `refused 6 at P`
 pub fn session_refused(output: &mut [u8], at: usize, place: usize) -> usize
-    ensures { record { output = output.exit.now; at = result } ≡ printed output.entry.now at (session_refused place) }
+    ensures { record { output = output.new; at = result } ≡ printed output.old at (session_refused place) }
 {
     let next = parts::say_number(output, at, b"refused 6 at ", place);
     parts::say(output, next, b"\n")

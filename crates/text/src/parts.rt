@@ -10,7 +10,7 @@ use card::{Answer, bytes};
 
 // The words as they are.
 pub fn say(output: &mut [u8], at: usize, words: &[u8]) -> usize
-    ensures { record { output = output.exit.now; at = result } ≡ printed output.entry.now at words.now }
+    ensures { record { output = output.new; at = result } ≡ printed output.old at words.now }
 {
     let count = bytes::least(words.len(), bytes::left(output.len(), at));
     bytes::copy(output, at, words, count);
@@ -19,7 +19,7 @@ pub fn say(output: &mut [u8], at: usize, words: &[u8]) -> usize
 
 // One byte.
 fn byte(output: &mut [u8], at: usize, value: u8) -> usize
-    ensures { record { output = output.exit.now; at = result } ≡ printed output.entry.now at (value ∷ []) }
+    ensures { record { output = output.new; at = result } ≡ printed output.old at (value ∷ []) }
 {
     if output.len() <= at {
         return at;
@@ -41,7 +41,7 @@ fn digit_byte(d: u8) -> u8
 
 // A number in decimal.
 pub fn decimal(output: &mut [u8], at: usize, n: usize) -> usize
-    ensures { record { output = output.exit.now; at = result } ≡ printed output.entry.now at (decimal_of n) }
+    ensures { record { output = output.new; at = result } ≡ printed output.old at (decimal_of n) }
 {
     if n < 10 {
         return byte(output, at, digit_byte(n as u8));
@@ -52,7 +52,7 @@ pub fn decimal(output: &mut [u8], at: usize, n: usize) -> usize
 
 // The two digits of a byte.
 fn hex_byte(output: &mut [u8], at: usize, value: u8) -> usize
-    ensures { record { output = output.exit.now; at = result } ≡ printed output.entry.now at (digit (value / 16) ∷ digit (value % 16) ∷ []) }
+    ensures { record { output = output.new; at = result } ≡ printed output.old at (digit (value / 16) ∷ digit (value % 16) ∷ []) }
 {
     let next = byte(output, at, digit_byte(value / 16));
     byte(output, next, digit_byte(value % 16))
@@ -60,7 +60,7 @@ fn hex_byte(output: &mut [u8], at: usize, value: u8) -> usize
 
 // Two digits a byte.
 fn hex_digits(output: &mut [u8], at: usize, shown: &[u8]) -> usize
-    ensures { record { output = output.exit.now; at = result } ≡ printed output.entry.now at (hex_digits shown.now) }
+    ensures { record { output = output.new; at = result } ≡ printed output.old at (hex_digits shown.now) }
 {
     let mut next = at;
     let mut i = 0;
@@ -73,7 +73,7 @@ fn hex_digits(output: &mut [u8], at: usize, shown: &[u8]) -> usize
 
 // Bytes in hex.
 pub fn hex(output: &mut [u8], at: usize, shown: &[u8]) -> usize
-    ensures { record { output = output.exit.now; at = result } ≡ printed output.entry.now at (hex_of shown.now) }
+    ensures { record { output = output.new; at = result } ≡ printed output.old at (hex_of shown.now) }
 {
     if shown.len() == 0 {
         return say(output, at, b"-");
@@ -83,7 +83,7 @@ pub fn hex(output: &mut [u8], at: usize, shown: &[u8]) -> usize
 
 // Words, and a number in decimal after them.
 pub fn say_number(output: &mut [u8], at: usize, words: &[u8], n: usize) -> usize
-    ensures { record { output = output.exit.now; at = result } ≡ printed output.entry.now at (words.now ++ decimal_of n) }
+    ensures { record { output = output.new; at = result } ≡ printed output.old at (words.now ++ decimal_of n) }
 {
     let next = say(output, at, words);
     decimal(output, next, n)
@@ -91,7 +91,7 @@ pub fn say_number(output: &mut [u8], at: usize, words: &[u8], n: usize) -> usize
 
 // Words, and bytes in hex after them.
 pub fn say_hex(output: &mut [u8], at: usize, words: &[u8], shown: &[u8]) -> usize
-    ensures { record { output = output.exit.now; at = result } ≡ printed output.entry.now at (words.now ++ hex_of shown.now) }
+    ensures { record { output = output.new; at = result } ≡ printed output.old at (words.now ++ hex_of shown.now) }
 {
     let next = say(output, at, words);
     hex(output, next, shown)
@@ -99,7 +99,7 @@ pub fn say_hex(output: &mut [u8], at: usize, words: &[u8], shown: &[u8]) -> usiz
 
 // The name of a call.
 pub fn name(output: &mut [u8], at: usize, name: Name) -> usize
-    ensures { record { output = output.exit.now; at = result } ≡ printed output.entry.now at (name_of name) }
+    ensures { record { output = output.new; at = result } ≡ printed output.old at (name_of name) }
 {
     match name {
         Name::Write => say(output, at, b"write"),
@@ -115,7 +115,7 @@ pub fn name(output: &mut [u8], at: usize, name: Name) -> usize
 
 // An answer.
 pub fn answer(output: &mut [u8], at: usize, answer: Answer) -> usize
-    ensures { record { output = output.exit.now; at = result } ≡ printed output.entry.now at (answer_of answer) }
+    ensures { record { output = output.new; at = result } ≡ printed output.old at (answer_of answer) }
 {
     match answer {
         Answer::Ok(n) => say_number(output, at, b"ok ", n),

@@ -1,5 +1,5 @@
 use mathlib.Core.Path.{◌≡◌, refl}
-use Prim.Native.Nat.{◌-◌}
+use Prim.Native.Nat.{◌≤◌}
 use lib.ListN.{length-set}
 use native.Mathlib.Omega.{arith}
 use Rattle.judge.proofs.Sets.{land_begins, land_more, land_skip, landing_most}
@@ -16,12 +16,12 @@ landing_of-at-requires c = (omega (arith, c.requires.within, c.requires.few), c.
 
 pub bounds-new-at : goal.bounds-new-at
 bounds-new-at c =
-    let h = landing_most _ _ _ _ c.landing_of-at.ensures (c.requires.fits (omega arith)) in
+    let h : c.landing_of-at.result ≤ c.args.capacity = landing_most _ _ _ _ c.landing_of-at.ensures (c.requires.fits (omega arith)) in
     omega (arith, h, c.requires.room)
 
 pub loop-i-preserved-then-old-h-eq1 : goal.loop-i-preserved-then-old-h-eq1
 loop-i-preserved-then-old-h-eq1 c =
-    let h = landing_most _ _ _ _ c.landing_of-at.ensures (c.requires.fits (omega arith)) in
+    let h : c.landing_of-at.result ≤ c.args.capacity = landing_most _ _ _ _ c.landing_of-at.ensures (c.requires.fits (omega arith)) in
     (omega arith, (simp length-set c.loop-i.invariant.1.0, land_more _ _ _ _ _ _ _ c.loop-i.invariant.1.1 c.landing_of-at.ensures c.if-old-h-eq1.true (omega (arith, h, c.requires.room))))
 
 pub loop-i-preserved : goal.loop-i-preserved

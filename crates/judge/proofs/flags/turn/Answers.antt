@@ -8,7 +8,7 @@ use Rattle.judge.proofs.flags.turn.Goals as goal
 
 pub land-requires : goal.land-requires
 land-requires c =
-    let l : length c.args.t1 ≡ 1025 = search rules in
+    let l : length c.args.old ≡ 1025 = search rules in
     storable _ _ _ _ c.args.flush c.args.claim c.land_end-lands.ensures l c.requires.0 c.requires.1
 
 pub mark-requires : goal.mark-requires
@@ -20,7 +20,7 @@ mark-requires c =
 
 pub mark-requires-2 : goal.mark-requires-2
 mark-requires-2 c =
-    let l : length c.args.t1 ≡ 1025 = search rules in
+    let l : length c.args.old ≡ 1025 = search rules in
     let e = c.stop_end-stop.ensures in
     let m = stop_end_most c.args.capacity c.args.flush c.args.n c.args.claim c.top-high.result in
     let k = c.land.auto.new in
@@ -29,5 +29,5 @@ mark-requires-2 c =
 
 pub returns : goal.returns
 returns c =
-    let l : length c.args.t1 ≡ 1025 = search rules in
+    let l : length c.args.old ≡ 1025 = search rules in
     turned _ _ _ _ _ _ _ _ _ _ _ _ l c.top-high.ensures c.land_end-lands.ensures c.zero_end-zero.ensures c.stop_end-stop.ensures c.land.ensures c.mark.ensures c.mark-2.ensures

@@ -1,7 +1,6 @@
 use mathlib.Core.Path.{sym, ap, ◌∙◌}
 use Prim.Native.Nat.{ℕ, ◌-◌, min}
 use native.Mathlib.Omega.{arith}
-use borrow.Author.Tests.{not-true, not-false}
 use Rattle.judge.proofs.Walks.{bytes_begin, bytes_fit, bytes_again, bytes_differ, bytes_end, bytes_short, bytes_never}
 use Rattle.judge.proofs.walk.compare.Goals as goal
 
@@ -20,7 +19,7 @@ same_bytes-requires c =
     (f.trace_part, omega (arith, f.card_part, c.requires))
 
 pub returns-then-not-same_bytes : goal.returns-then-not-same_bytes
-returns-then-not-same_bytes c = bytes_differ _ _ _ _ _ _ _ _ _ _ _ _ _ c.loop-left.invariant (sym c.read_call-read.ensures ∙ c.in-Call.is) (c.least-part.ensures ∙ ap (λ (k : ℕ). min k (c.args.long - c.loop-left.matched)) c.answered_by-taken.ensures) c.loop-left-test.true (c.same_bytes.ensures.no_other (not-true _ c.if-not-same_bytes.true))
+returns-then-not-same_bytes c = bytes_differ _ _ _ _ _ _ _ _ _ _ _ _ _ c.loop-left.invariant (sym c.read_call-read.ensures ∙ c.in-Call.is) (c.least-part.ensures ∙ ap (λ (k : ℕ). min k (c.args.long - c.loop-left.matched)) c.answered_by-taken.ensures) c.loop-left-test.true (c.same_bytes.ensures.no_other c.if-not-same_bytes.true)
 
 pub overflow_add-total : goal.overflow_add-total
 overflow_add-total c =
@@ -39,7 +38,7 @@ overflow_add-answered c =
 
 pub loop-left-preserved : goal.loop-left-preserved
 loop-left-preserved c =
-    let g = bytes_again _ _ _ _ _ _ _ _ _ _ _ _ _ c.loop-left.invariant (sym c.read_call-read.ensures ∙ c.in-Call.is) (c.least-part.ensures ∙ ap (λ (k : ℕ). min k (c.args.long - c.loop-left.matched)) c.answered_by-taken.ensures) c.loop-left-test.true (c.same_bytes.ensures.yes_same (not-false _ c.if-not-same_bytes.false)) in
+    let g = bytes_again _ _ _ _ _ _ _ _ _ _ _ _ _ c.loop-left.invariant (sym c.read_call-read.ensures ∙ c.in-Call.is) (c.least-part.ensures ∙ ap (λ (k : ℕ). min k (c.args.long - c.loop-left.matched)) c.answered_by-taken.ensures) c.loop-left-test.true (c.same_bytes.ensures.yes_same c.if-not-same_bytes.false) in
     rw c.answered_by-taken.ensures g
 
 pub returns-in-Fault : goal.returns-in-Fault
