@@ -1,0 +1,13 @@
+-- `session::read_calls` meets its contract. Assumes nothing.
+use Rattle.session.proofs.Offsets.{zeros_long}
+use Rattle.session.proofs.Shows.{capacity_in, read_lines}
+use Rattle.session.proofs.read_calls.Goals as goal
+
+pub slice_bounds-storage-end : goal.slice_bounds-storage-end
+slice_bounds-storage-end c = capacity_in _ _ _ c.requires
+
+pub slice_bounds-run-end : goal.slice_bounds-run-end
+slice_bounds-run-end c = zeros_long _ 1024 (capacity_in _ _ _ c.requires)
+
+pub returns : goal.returns
+returns c = read_lines _ _ _ c.requires _ _ _ _ _ c.part-stock.ensures c.run.ensures
