@@ -10,7 +10,7 @@ mod writing;
 
 ghost use Rattle.std.specs.Prelude.{◌≡◌, length};
 
-use libc::{STDIN_FILENO, STDOUT_FILENO};
+use std::io::{Read, Write};
 
 // More than the longest answer and its length.
 const OUTPUT_MOST: usize = 2400000;
@@ -46,41 +46,41 @@ fn answer_to(request: &[u8], output: &mut [u8]) -> usize {
 }
 
 // The answer after its length, as one write.
-fn send(request: &[u8], output: &mut [u8]) -> bool {
+fn send(rt: &HostRuntime, request: &[u8], output: &mut [u8]) -> bool {
     let from = card::bytes::least(4, output.len());
     let most = output.len() - from;
     let n = card::bytes::least(answer_to(request, &mut output[from..]), most);
     number::put(output, 0, n);
     let end = card::bytes::least(from + n, output.len());
-    io::write_all(STDOUT_FILENO, &output[0..end])
+    rt.stdout().write_all(&output[0..end]).is_ok()
 }
 
 // One request; false where the input has ended or the answer does not go out.
-fn serve(input: &mut [u8], output: &mut [u8]) -> bool {
+fn serve(rt: &HostRuntime, input: &mut [u8], output: &mut [u8]) -> bool {
     let mut head = [0u8; 4];
-    if io::read_full(STDIN_FILENO, &mut head) < 4 {
+    if rt.stdin().read_exact(&mut head).is_err() {
         return false;
     }
     let n = card::bytes::least(number::number(&head, 0), input.len());
-    if io::read_full(STDIN_FILENO, &mut input[0..n]) < n {
+    if rt.stdin().read_exact(&mut input[0..n]).is_err() {
         return false;
     }
-    send(&input[0..n], output)
+    send(rt, &input[0..n], output)
 }
 
 // More requests than any run has.
-fn serve_all(input: &mut [u8], output: &mut [u8]) {
+fn serve_all(rt: &HostRuntime, input: &mut [u8], output: &mut [u8]) {
     let mut left = 1000000000000u64;
     while 0 < left {
-        if !serve(input, output) {
+        if !serve(rt, input, output) {
             return;
         }
         left -= 1;
     }
 }
 
-fn main() {
-    let mut input = io::large_buffer();
+fn main(rt: HostRuntime) {
+    let mut input = [0u8; 65536];
     let mut output = output_room();
-    serve_all(&mut input, &mut output);
+    serve_all(&rt, &mut input, &mut output);
 }

@@ -7,8 +7,10 @@ mod readers;
 mod traces;
 mod writers;
 
-fn main() {
-    writers::rows();
-    readers::rows();
-    traces::rows();
+use std::io;
+
+fn main(rt: HostRuntime) -> io::Result<()> {
+    writers::rows(&rt)?;
+    readers::rows(&rt)?;
+    traces::rows(&rt)
 }

@@ -1,56 +1,53 @@
 // What the lines are made of.
 use card::Answer;
-use libc::STDOUT_FILENO;
+use std::io;
+use std::io::Write;
 
-pub(crate) fn word(text: &[u8]) {
-    io::write_all(STDOUT_FILENO, text);
+pub(crate) fn word(rt: &HostRuntime, text: &[u8]) -> io::Result<()> {
+    rt.stdout().write_all(text)
 }
 
-pub(crate) fn number(text: &[u8], n: usize) {
-    io::write_all(STDOUT_FILENO, text);
-    io::print_decimal(STDOUT_FILENO, n as u64);
+pub(crate) fn number(rt: &HostRuntime, text: &[u8], n: usize) -> io::Result<()> {
+    word(rt, text)?;
+    print!(rt; "{n}")
 }
 
 // The start of a line: the row's number and the call's name.
-pub(crate) fn call(row: usize, name: &[u8]) {
-    number(b"", row);
-    word(b" ");
-    word(name);
+pub(crate) fn call(rt: &HostRuntime, row: usize, name: &[u8]) -> io::Result<()> {
+    number(rt, b"", row)?;
+    word(rt, b" ")?;
+    word(rt, name)
 }
 
-pub(crate) fn answer(answer: Answer) {
+pub(crate) fn answer(rt: &HostRuntime, answer: Answer) -> io::Result<()> {
     match answer {
-        Answer::Ok(n) => number(b" ok ", n),
-        Answer::Done => word(b" ok"),
-        Answer::Interrupted => word(b" interrupted"),
-        Answer::Zero => word(b" zero"),
-        Answer::Whole => word(b" whole"),
-        Answer::Error(code) => number(b" error ", code as usize),
-        Answer::Refused(refusal) => number(b" refused ", refusal as usize),
+        Answer::Ok(n) => number(rt, b" ok ", n),
+        Answer::Done => word(rt, b" ok"),
+        Answer::Interrupted => word(rt, b" interrupted"),
+        Answer::Zero => word(rt, b" zero"),
+        Answer::Whole => word(rt, b" whole"),
+        Answer::Error(code) => number(rt, b" error ", code as usize),
+        Answer::Refused(refusal) => number(rt, b" refused ", refusal as usize),
     }
 }
 
-fn wide(byte: u8) -> u64 {
-    byte as u64
-}
-
 // The first `count` of some bytes.
-pub(crate) fn bytes(bytes: &[u8], count: usize) {
+pub(crate) fn bytes(rt: &HostRuntime, bytes: &[u8], count: usize) -> io::Result<()> {
     if count == 0 {
-        word(b"-");
-        return;
+        return word(rt, b"-");
     }
     let mut i = 0;
     while i < bytes.len() {
         if count <= i {
-            return;
+            return Ok(());
         }
-        io::print_hex(STDOUT_FILENO, wide(bytes[i]), 2);
+        print!(rt; "{:02x}", bytes[i])?;
         i += 1;
     }
+    Ok(())
 }
 
-pub(crate) fn all(text: &[u8], shown: &[u8]) {
-    word(text);
-    bytes(shown, shown.len());
+pub(crate) fn all(rt: &HostRuntime, text: &[u8], shown: &[u8]) -> io::Result<()> {
+    word(rt, text)?;
+    bytes(rt, shown, shown.len())
 }
