@@ -96,8 +96,7 @@ fn run(session: &[u8], header: Header, output: &mut [u8]) -> usize
 
 // The judge's line of a trace, at the front of the output and cut where the output ends; the
 // answer is where it ends.
-#[unsafe(no_mangle)]
-pub extern "C" fn stackglow_judge(trace: &[u8], output: &mut [u8]) -> usize
+pub fn stackglow_judge(trace: &[u8], output: &mut [u8]) -> usize
     ensures { Ruled trace.now output.old result output.new }
 {
     let verdict = judge::judge(trace);
@@ -110,8 +109,7 @@ pub extern "C" fn stackglow_judge(trace: &[u8], output: &mut [u8]) -> usize
 
 // The text of a session, at the front of the output and cut where the output ends; the answer is
 // where it ends.
-#[unsafe(no_mangle)]
-pub extern "C" fn stackglow_session(session: &[u8], output: &mut [u8]) -> usize
+pub fn stackglow_session(session: &[u8], output: &mut [u8]) -> usize
     ensures { Shown session.now output.old result output.new }
 {
     let checked = whole::check(session);

@@ -32,8 +32,7 @@ fn hand(
     answer::number(said)
 }
 
-#[unsafe(no_mangle)]
-pub extern "C" fn stackglow_fill_buf(
+pub fn stackglow_fill_buf(
     pos: &mut usize,
     filled: &mut usize,
     taken: &mut usize,
@@ -56,8 +55,7 @@ pub extern "C" fn stackglow_fill_buf(
     hand(a, pos, filled, taken, used, value, calls)
 }
 
-#[unsafe(no_mangle)]
-pub extern "C" fn stackglow_consume(
+pub fn stackglow_consume(
     pos: &mut usize,
     filled: &mut usize,
     taken: &mut usize,
@@ -81,8 +79,7 @@ pub extern "C" fn stackglow_consume(
     hand(a, pos, filled, taken, used, value, calls)
 }
 
-#[unsafe(no_mangle)]
-pub extern "C" fn stackglow_read(
+pub fn stackglow_read(
     pos: &mut usize,
     filled: &mut usize,
     taken: &mut usize,
@@ -106,8 +103,7 @@ pub extern "C" fn stackglow_read(
     hand(a, pos, filled, taken, used, value, calls)
 }
 
-#[unsafe(no_mangle)]
-pub extern "C" fn stackglow_peek(
+pub fn stackglow_peek(
     pos: &mut usize,
     filled: &mut usize,
     taken: &mut usize,
@@ -131,8 +127,7 @@ pub extern "C" fn stackglow_peek(
     hand(a, pos, filled, taken, used, value, calls)
 }
 
-#[unsafe(no_mangle)]
-pub extern "C" fn stackglow_seek_relative(
+pub fn stackglow_seek_relative(
     pos: &mut usize,
     filled: &mut usize,
     taken: &mut usize,

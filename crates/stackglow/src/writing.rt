@@ -31,8 +31,7 @@ pub fn hand(
     answer::number(said)
 }
 
-#[unsafe(no_mangle)]
-pub extern "C" fn stackglow_flush_buf(
+pub fn stackglow_flush_buf(
     held: &mut usize,
     out: &mut usize,
     used: &mut usize,
@@ -53,8 +52,7 @@ pub extern "C" fn stackglow_flush_buf(
     hand(a, held, out, used, value, calls)
 }
 
-#[unsafe(no_mangle)]
-pub extern "C" fn stackglow_write(
+pub fn stackglow_write(
     held: &mut usize,
     out: &mut usize,
     used: &mut usize,
@@ -76,8 +74,7 @@ pub extern "C" fn stackglow_write(
     hand(a, held, out, used, value, calls)
 }
 
-#[unsafe(no_mangle)]
-pub extern "C" fn stackglow_write_all(
+pub fn stackglow_write_all(
     held: &mut usize,
     out: &mut usize,
     used: &mut usize,
@@ -99,8 +96,7 @@ pub extern "C" fn stackglow_write_all(
     hand(a, held, out, used, value, calls)
 }
 
-#[unsafe(no_mangle)]
-pub extern "C" fn stackglow_flush(
+pub fn stackglow_flush(
     held: &mut usize,
     out: &mut usize,
     used: &mut usize,

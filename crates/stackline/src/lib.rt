@@ -12,8 +12,7 @@ use flushing::State;
 use line::linewriter;
 use stackglow::writing;
 
-#[unsafe(no_mangle)]
-pub extern "C" fn stackglow_line_write(
+pub fn stackglow_line_write(
     held: &mut usize,
     out: &mut usize,
     used: &mut usize,
@@ -35,8 +34,7 @@ pub extern "C" fn stackglow_line_write(
     writing::hand(a, held, out, used, value, calls)
 }
 
-#[unsafe(no_mangle)]
-pub extern "C" fn stackglow_line_write_all(
+pub fn stackglow_line_write_all(
     held: &mut usize,
     out: &mut usize,
     used: &mut usize,
