@@ -36,9 +36,9 @@ flush_reply_said (Error code) = error code
 
 -- a reply by its cases
 abbrev pub on_reply {ℓ} : {A : Type ℓ} → Reply → (ℕ → A) → A → (ℕ → A) → A
-on_reply (Accept n) accept interrupted error = accept n
-on_reply Interrupted accept interrupted error = interrupted
-on_reply (Error code) accept interrupted error = error code
+on_reply (Accept n) accept pause error = accept n
+on_reply Interrupted accept pause error = pause
+on_reply (Error code) accept pause error = error code
 
 abbrev pub sent_by : Outcome → ℕ → ℕ → ℕ → Sent
 sent_by outcome sent used writes = record { outcome = outcome; sent = sent; used = used; writes = writes }
