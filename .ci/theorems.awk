@@ -8,7 +8,7 @@ function theorem(crate, word, parts) {
 
 {
     rest = $0
-    while (match(rest, /`[a-z_]+\.proofs\.[A-Z][A-Za-z]*\.[a-z][a-z0-9-]*`/)) {
+    while (match(rest, /`[a-z_]+\.proofs\.[A-Z][A-Za-z]*\.[a-z][a-z0-9_-]*`/)) {
         word = substr(rest, RSTART + 1, RLENGTH - 2)
         rest = substr(rest, RSTART + RLENGTH)
         crate = word
@@ -23,7 +23,7 @@ function theorem(crate, word, parts) {
     sub(/^\| `/, "", crate)
     sub(/::.*/, "", crate)
     rest = $0
-    while (match(rest, /`[A-Z][A-Za-z]*\.[a-z][a-z0-9-]*`/)) {
+    while (match(rest, /`[A-Z][A-Za-z]*\.[a-z][a-z0-9_-]*`/)) {
         theorem(crate, substr(rest, RSTART + 1, RLENGTH - 2))
         rest = substr(rest, RSTART + RLENGTH)
     }

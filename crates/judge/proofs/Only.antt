@@ -2,7 +2,7 @@
 -- Assumes nothing.
 use mathlib.Core.Path.{◌≡◌, refl, ◌∙◌}
 use mathlib.Core.List.{List}
-use Prim.Native.Nat.{ℕ, ◌-◌, ◌≤◌, min}
+use Prim.Native.Nat.{ℕ, ◌≤◌, min}
 use native.Mathlib.Omega.{arith}
 use lib.ListN.{length}
 use Rattle.card.specs.declared.Reply.{Reply}
@@ -15,7 +15,7 @@ use Rattle.flushing.specs.declared.Outcome.TheVariants.{Done, Zero, Failed}
 use Rattle.flushing.specs.World.{World, Called, Fit, room, replies}
 use Rattle.flushing.specs.Send.{flush_said, write_said, flush_reply_said, send_from}
 use Rattle.flushing.specs.Flush.{flush_buf}
-use Rattle.writer.specs.Writer.{stored, device_write, write, device_flush, flush}
+use Rattle.writer.specs.Writer.{device_write, write, device_flush, flush}
 use Rattle.flushing.proofs.Flushes.{keeps}
 use Rattle.flushing.proofs.Cases.{flush_cases}
 use Rattle.writer.proofs.Cases.{written_cases, placed_by}

@@ -3,14 +3,14 @@
 use mathlib.Core.Path.{◌≡◌, refl, sym, ap, ap₂, ◌∙◌, subst}
 use mathlib.Core.Bool.{Bool, true, false}
 use mathlib.Core.List.{List, [], ◌∷◌, ◌++◌, append_assoc, append-nil}
-use Prim.Native.Nat.{ℕ, zero, ◌+◌, ◌-◌, ◌≤◌, ◌<◌, ◌^◌}
+use Prim.Native.Nat.{ℕ, ◌+◌, ◌-◌, ◌≤◌, ◌<◌, ◌^◌}
 use native.Mathlib.Omega.{arith}
 use lib.ListN.{length, take, replicate, length-append, length-take, length-replicate}
 use lib.Dec.{eqb}
 use lib.Seq.{take_at, length-take-le}
 use Rattle.laws.specs.Pick.{pick}
-use Rattle.card.specs.Answers.{Said, ok, done, interrupted, error}
-use Rattle.flushing.specs.World.{World, begun, room, replies, is_ok, new, count_of}
+use Rattle.card.specs.Answers.{Said, error}
+use Rattle.flushing.specs.World.{World, begun, replies, is_ok, new, count_of}
 use Rattle.writer.specs.Writer.{write, flush}
 use Rattle.ledger.specs.Ledger.{accepted, ledger}
 use Rattle.ledger.proofs.Moves.{In, Moved, moved_in}

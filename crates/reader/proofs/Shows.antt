@@ -16,7 +16,7 @@ use Rattle.card.specs.Device.{exchange, moves}
 use Rattle.card.specs.declared.Reply.{Reply}
 use Rattle.card.specs.declared.Reply.TheVariants.{Accept, Interrupted, Error}
 use Rattle.card.proofs.Replies.{exchange_most}
-use Rattle.reader.specs.World.{World, Fetched, Fit, world}
+use Rattle.reader.specs.World.{World, Fetched, Fit}
 use Rattle.reader.specs.Buffer.{count, shown, backshift, added, read_more}
 use Rattle.reader.specs.Reader.{handed, handed_up, refusal, unless, shifted_back, after_more, peek_turn, peek_loop, peek_refusal, peek}
 use Rattle.reader.proofs.Refusals.{fit}

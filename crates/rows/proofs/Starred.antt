@@ -5,7 +5,6 @@ use mathlib.Core.Path.{refl}
 use mathlib.Core.List.{[], ◌∷◌}
 use Prim.Native.Nat.{ℕ}
 use native.Mathlib.Omega.{arith}
-use lib.ListN.{length}
 use Rattle.laws.specs.Put.{put}
 use Rattle.card.specs.Answers.{ok, error}
 use Rattle.card.specs.Device.{reply_of, next, takes, at_most, exchange}

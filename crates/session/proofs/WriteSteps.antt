@@ -2,7 +2,7 @@
 -- Assumes nothing.
 use mathlib.Core.Path.{◌≡◌, sym, ap, ap₂, ◌∙◌}
 use mathlib.Core.List.{List}
-use Prim.Native.Nat.{ℕ, ◌-◌}
+use Prim.Native.Nat.{ℕ}
 use lib.ListN.{take}
 use borrow.Author.Tests.{eq-eqb, ne_eqb}
 use Rattle.card.specs.Answers.{said}

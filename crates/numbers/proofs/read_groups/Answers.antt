@@ -1,5 +1,4 @@
 use mathlib.Core.Path.{sym, ◌∙◌}
-use Prim.Native.Nat.{◌-◌}
 use native.Mathlib.Omega.{arith}
 use Rattle.numbers.proofs.Groups.{start, over, finish, again, cut, fits, weight_fits}
 use Rattle.numbers.proofs.read_groups.Goals as goal

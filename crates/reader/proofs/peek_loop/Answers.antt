@@ -1,5 +1,4 @@
 use native.Mathlib.Omega.{arith}
-use Prim.Native.Nat.{◌-◌}
 use Rattle.reader.proofs.Peeks.{starts, ends, turn_kept, at_end, at_interrupted, at_error, goes_on}
 use Rattle.reader.proofs.peek_loop.Goals as goal
 

@@ -1,5 +1,4 @@
 use mathlib.Core.Path.{◌∙◌}
-use Prim.Native.Nat.{◌-◌}
 use native.Mathlib.Omega.{arith}
 use Rattle.card.proofs.Pastes.{begins, ends, block}
 use Rattle.card.proofs.bytes.copy_blocks.Goals as goal

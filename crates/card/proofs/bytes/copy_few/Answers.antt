@@ -1,4 +1,3 @@
-use Prim.Native.Nat.{◌-◌}
 use native.Mathlib.Omega.{arith}
 use Rattle.card.proofs.Pastes.{begins, byte, ends}
 use Rattle.card.proofs.bytes.copy_few.Goals as goal

@@ -1,5 +1,4 @@
 use mathlib.Core.Path.{◌∙◌}
-use Prim.Native.Nat.{◌-◌}
 use native.Mathlib.Omega.{arith}
 use Rattle.flushing.proofs.Turn.{begins, ends_done, accepted, accepted_less, within, ends_zero, interrupted, interrupted_less, ends_failed}
 use Rattle.flushing.proofs.send.send_all.Goals as goal

@@ -1,6 +1,5 @@
 use mathlib.Core.Path.{sym, ◌∙◌}
 use native.Mathlib.Omega.{arith}
-use Prim.Native.Nat.{◌-◌}
 use Rattle.numbers.proofs.Most.{most_value}
 use Rattle.form.proofs.Filling.{start, again, stop, end}
 use Rattle.form.proofs.replies.read_replies.Goals as goal

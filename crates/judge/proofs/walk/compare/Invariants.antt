@@ -1,5 +1,4 @@
 -- `judge::walk::compare` meets its contract, by the walk of `Walks`. Assumes nothing.
-use Prim.Native.Nat.{◌-◌}
 use Rattle.judge.proofs.Walks.{InvBytes}
 use Rattle.judge.proofs.walk.compare.Given as goal
 

@@ -1,5 +1,4 @@
 use mathlib.Core.Path.{refl}
-use Prim.Native.Nat.{◌-◌}
 use native.Mathlib.Omega.{arith}
 use Rattle.judge.proofs.Walks.{same_more, same_not, same_all}
 use Rattle.judge.proofs.walk.same_bytes.Goals as goal

@@ -9,8 +9,8 @@ loop-i-init c = look_begins _ _
 pub loop-i-preserved : goal.loop-i-preserved
 loop-i-preserved c =
     elim c.if-s-at-eq10.branch [
-      then-s-at-eq10 w ↦ look_hit _ _ _ _ w.found-is (omega arith)
-    | else-s-at-eq10 w ↦ look_miss _ _ _ _ _ c.loop-i.invariant w.if-s-at-eq10.false w.found-is (omega arith) (omega arith)
+      | then-s-at-eq10 w ↦ look_hit _ _ _ _ w.found-is (omega arith)
+      | else-s-at-eq10 w ↦ look_miss _ _ _ _ _ c.loop-i.invariant w.if-s-at-eq10.false w.found-is (omega arith) (omega arith)
     ]
 
 pub returns : goal.returns

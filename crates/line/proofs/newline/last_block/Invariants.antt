@@ -1,5 +1,4 @@
 -- `line::newline::last_block` meets its contract. The loop's invariant: the last newline, if any, is before place i. Assumes nothing.
-use Prim.Native.Nat.{◌-◌}
 use Rattle.line.proofs.Newlines.{Searched}
 use Rattle.line.proofs.newline.last_block.Given as goal
 

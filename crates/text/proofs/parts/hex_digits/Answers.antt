@@ -1,4 +1,3 @@
-use Prim.Native.Nat.{◌-◌}
 use native.Mathlib.Omega.{arith}
 use Rattle.text.proofs.Hexes.{start, again, finish}
 use Rattle.text.proofs.parts.hex_digits.Goals as goal
