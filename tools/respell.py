@@ -136,9 +136,8 @@ def main():
             new = TOKEN.sub(turn, t)
         if new != t:
             open(p, "w", encoding="utf-8").write(new)
-    with open("/tmp/respelled.txt", "w", encoding="utf-8") as out:
-        for n in sorted(table):
-            out.write(n + " " + table[n] + "\n")
+    for n in sorted(table):
+        print(n, table[n])
     print(len(table), "names respelled")
 
 
