@@ -1,7 +1,7 @@
--- `card::limits::length_refusal` meets its contract. Assumes nothing.
+-- `card::limits::check_length` meets its contract. Assumes nothing.
 use borrow.Author.Tests.{le-ltb, lt-ltb}
 use Rattle.card.specs.Limits.{length_refusal}
-use Rattle.card.proofs.limits.length_refusal.Goals as goal
+use Rattle.card.proofs.limits.check_length.Goals as goal
 
 pub returns-then-n-gt-BYTES_MOST : goal.returns-then-n-gt-BYTES_MOST
 unfolding length_refusal
