@@ -12,6 +12,7 @@ use Rattle.laws.proofs.Parts.{rest, drop_least}
 use Rattle.laws.specs.Put.{put}
 use Rattle.std.specs.Prelude.{Ok, Err}
 use Rattle.card.specs.declared.Exchange.{Exchange}
+use Rattle.card.specs.declared.DeviceError.{DeviceError}
 use Rattle.card.specs.Device.{Reply, accept, interrupted, error, reply_of, next, takes, at_most, moves, exchange}
 
 -- past the script's end
@@ -102,3 +103,7 @@ reply_of_exchange e left used most p = sym (ap (λ (x : Exchange). x.reply) p)
 pub used_of_exchange : (e : Exchange) (left : List ℕ) (used most : ℕ) → e ≡ exchange left used most → e.used ≡ used + takes left
 unfolding exchange
 used_of_exchange e left used most p = ap (λ (x : Exchange). x.used) p
+
+-- a reply that is no, for a reason that is known
+pub because : (r : Reply) (e d : DeviceError) → r ≡ Err e → e ≡ d → r ≡ Err d
+because r e d p q = rw (← q) p

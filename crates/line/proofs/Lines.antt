@@ -13,21 +13,17 @@ use Rattle.laws.specs.Pick.{pick}
 use Rattle.laws.specs.Put.{put}
 use Rattle.laws.proofs.Puts.{length-put}
 use Rattle.laws.proofs.Parts.{rest}
-use Rattle.card.specs.declared.Reply.{Reply}
-use Rattle.card.specs.declared.Reply.TheVariants.{Accept}
 use Rattle.card.specs.declared.Exchange.{Exchange}
 use Rattle.card.specs.Answers.{said, ok}
-use Rattle.card.specs.Device.{exchange, moves}
+use Rattle.card.specs.Device.{exchange, moves, Reply}
 use Rattle.card.specs.Limits.{script_most, bytes_most, refusal_of, length_refusal}
 use Rattle.card.proofs.Replies.{exchange_most}
 use Rattle.card.proofs.Refusals.{length_within, length_unrefused}
 use Rattle.flushing.specs.declared.State.{State}
-use Rattle.flushing.specs.declared.Answered.{Answered}
-use Rattle.flushing.specs.declared.Outcome.{Outcome}
-use Rattle.flushing.specs.declared.Outcome.TheVariants.{Done}
+use Rattle.flushing.specs.World.{Answered}
 use Rattle.flushing.specs.declared.Sent.{Sent}
 use Rattle.flushing.specs.World.{World, Called, Told, Sound, world_of, world_after, told, reported, taken, is_ok, and_then, nothing, refusing}
-use Rattle.flushing.specs.Send.{whole_said, write_said, send_from}
+use Rattle.flushing.specs.Send.{whole_said, write_said, send_from, Outcome}
 use Rattle.flushing.specs.Flush.{flush_buf, flush_buf_call}
 use Rattle.flushing.proofs.Sends.{within}
 use Rattle.flushing.proofs.Thens.{then_ok, then_assoc, then_done, told_called}
@@ -41,6 +37,7 @@ use Rattle.writer.proofs.Counts.{write_all_counts, write_all_uses}
 use Rattle.writer.proofs.Calls.{device_all_room, device_all_few}
 use Rattle.line.specs.Line.{lines_length, ends_line, completed, window, tail_kept, keep_tail, send_lines, line_write, lines_all, line_write_all}
 use Rattle.line.proofs.Newlines.{window_most, lines_most}
+use Rattle.std.specs.Prelude.{Ok}
 
 -- ---- how much is kept
 
@@ -71,7 +68,7 @@ tail_most most s e f k q h l = at_most most (length s) e f k h l (rw q (tail_lea
 -- ---- the device write of the lines
 
 module _ (script st me s : List ℕ) (state : State) (e writes : ℕ) (x : Exchange) (px : x ≡ exchange (drop state.used script) state.used (min (length (take e s)) (length me - state.out))) where
-  pub lines_taken : (f : ℕ) → x.reply ≡ Accept f → f ≤ e
+  pub lines_taken : (f : ℕ) → x.reply ≡ Ok f → f ≤ e
   lines_taken f q =
       let m : moves x.reply ≤ min (length (take e s)) (length me - state.out) = rw px (exchange_most (drop state.used script) state.used (min (length (take e s)) (length me - state.out))) in
       let n : f ≤ min (length (take e s)) (length me - state.out) = rw q at m in
@@ -86,7 +83,7 @@ module _ (script st me s : List ℕ) (state : State) (e writes : ℕ) (x : Excha
   device_told = ap (λ (g : Exchange). record { answer = write_said g.reply; world = taken (world_after state st me writes) (take e s) (moves g.reply) g.used (writes + 1) }) (sym px)
 
   module _ (y : List ℕ) (py : y ≡ put me state.out (take e s) (moves x.reply)) where
-    pub lines_kept : (f k : ℕ) (z : List ℕ) → x.reply ≡ Accept f → k ≡ tail_kept (length st) s e f → z ≡ put st state.held (take (length s - f) (drop f s)) (min k (min (length (take (length s - f) (drop f s))) (length st - state.held))) → state.held ≡ 0 → e ≤ length s → record { answer = ok (f + k); calls = writes + 1; held = state.held + k; out = state.out + f; used = x.used; storage = z; medium = y } ≡ reported (send_lines script (world_after state st me writes) s e)
+    pub lines_kept : (f k : ℕ) (z : List ℕ) → x.reply ≡ Ok f → k ≡ tail_kept (length st) s e f → z ≡ put st state.held (take (length s - f) (drop f s)) (min k (min (length (take (length s - f) (drop f s))) (length st - state.held))) → state.held ≡ 0 → e ≤ length s → record { answer = ok (f + k); calls = writes + 1; held = state.held + k; out = state.out + f; used = x.used; storage = z; medium = y } ≡ reported (send_lines script (world_after state st me writes) s e)
     unfolding send_lines and_then keep_tail
     lines_kept f k z q pk pz h l =
         let most = tail_most (length st) s e f k pk (lines_taken f q) l in
@@ -190,9 +187,9 @@ module _ (script st me l : List ℕ) (state : State) (f : Sent) (pf : f ≡ send
       pub direct_next_few : b.calls ≤ script_most + 1
       direct_next_few = step_few script st y (record { held = state.held; out = state.out + f.sent; used = f.used }) (λ v. write_all script v t) b x' y' (λ v. write_all_counts script v t) (λ v. write_all_uses script v t) made_direct direct_sound
 
-      pub direct_next : f.outcome ≡ Done → record { answer = said b.answer; calls = f.writes + b.calls; held = b.state.held; out = b.state.out; used = b.state.used; storage = x'; medium = y' } ≡ reported (and_then (device_write_all script (world_of state st me) l) (λ v. write_all script v t))
+      pub direct_next : f.outcome ≡ (Ok tt) → record { answer = said b.answer; calls = f.writes + b.calls; held = b.state.held; out = b.state.out; used = b.state.used; storage = x'; medium = y' } ≡ reported (and_then (device_write_all script (world_of state st me) l) (λ v. write_all script v t))
       direct_next q =
-          then_done (device_write_all script (world_of state st me) l) (λ v. write_all script v t) (world_after (record { held = state.held; out = state.out + f.sent; used = f.used }) st y f.writes) (whole_said Done) _ (direct_told Done q) refl
+          then_done (device_write_all script (world_of state st me) l) (λ v. write_all script v t) (world_after (record { held = state.held; out = state.out + f.sent; used = f.used }) st y f.writes) (whole_said (Ok tt)) _ (direct_told (Ok tt) q) refl
           (after_is script st y (record { held = state.held; out = state.out + f.sent; used = f.used }) (λ v. write_all script v t) b x' y' f.writes (write_all_later script t) made_direct)
 
 -- something held

@@ -8,17 +8,17 @@ use native.Mathlib.Omega.{arith}
 use lib.ListN.{length, length-drop}
 use Rattle.laws.proofs.Puts.{length-put}
 use Rattle.card.specs.Answers.{Said, done}
-use Rattle.flushing.specs.declared.Outcome.{Outcome}
-use Rattle.flushing.specs.declared.Outcome.TheVariants.{Done, Zero, Failed}
 use Rattle.flushing.specs.declared.Sent.{Sent}
 use Rattle.flushing.specs.World.{World, Called, Fit, room, replies, is_ok}
-use Rattle.flushing.specs.Send.{whole_said}
+use Rattle.flushing.specs.Send.{whole_said, Outcome}
 use Rattle.flushing.specs.Flush.{flush_buf}
 use Rattle.writer.specs.Writer.{stored, taken_by, device_write_all, write_all}
 use Rattle.flushing.proofs.Sends.{Within, within}
 use Rattle.flushing.proofs.Flushes.{keeps}
 use Rattle.flushing.proofs.Cases.{flush_ok_done}
 use Rattle.writer.proofs.Cases.{written_cases, placed_by}
+use Rattle.std.specs.Prelude.{Ok, Err}
+use Rattle.flushing.specs.declared.Stop.TheVariants.{Zero, Failed}
 
 pub record Goes (script : List ℕ) (w : World) (c : Called) : Type 0 where
   pub fit : is_ok c.answer ≡ true → Fit script c.world
@@ -26,12 +26,12 @@ pub record Goes (script : List ℕ) (w : World) (c : Called) : Type 0 where
   pub storage_long : length c.world.storage ≡ length w.storage
   pub medium_long : length c.world.medium ≡ length w.medium
 
-whole_done : (o : Outcome) → is_ok (whole_said o) ≡ true → o ≡ Done
-whole_done Done e = refl
-whole_done Zero e =
+whole_done : (o : Outcome) → is_ok (whole_said o) ≡ true → o ≡ (Ok tt)
+whole_done (Ok nothing) e = refl
+whole_done (Err Zero) e =
     let z : ◌≡◌ {A = ℕ} 0 1 = cc in
     absurd (omega arith)
-whole_done (Failed code) e =
+whole_done (Err (Failed code)) e =
     let z : ◌≡◌ {A = ℕ} 0 1 = cc in
     absurd (omega arith)
 
