@@ -129,6 +129,9 @@ failed_not_ok (Refused number) = refl
 pub fit_on : (v w : BufWriter) (u : World) → Lent v w → Fit v.script.now u → Fit w.script.now u
 fit_on v w u l h = rw l.script h
 
+pub sound_lent : (v w : BufWriter) (u : World) → Lent v w → Sound v.script.now u → Sound w.script.now u
+sound_lent v w u l h = rw l.script h
+
 -- ---- the cold road
 
 -- room made, or there
