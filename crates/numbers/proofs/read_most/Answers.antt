@@ -1,13 +1,13 @@
 -- `numbers::read_most` meets its contract. Assumes nothing.
 use mathlib.Core.Path.{sym, ◌∙◌}
-use Rattle.numbers.proofs.Most.{kept, above, faulty}
+use Rattle.numbers.proofs.Most.{kept, above, faulty, handed_on}
 use Rattle.numbers.proofs.read_most.Goals as goal
 
-pub returns-then-value-most : goal.returns-then-value-most
-returns-then-value-most c = kept _ _ _ _ _ (sym c.read-found.ensures ∙ c.in-Value.is) c.if-value-most.true
+pub returns-in_err-value : goal.returns-in_err-value
+returns-in_err-value c = handed_on _ _ c.from_residual.ensures.1 ∙ faulty _ _ _ _ (sym c.read.ensures ∙ c.in_err-value.was)
 
-pub returns-else-value-most : goal.returns-else-value-most
-returns-else-value-most c = above _ _ _ _ _ (sym c.read-found.ensures ∙ c.in-Value.is) c.if-value-most.false
+pub returns-then-most-value : goal.returns-then-most-value
+returns-then-most-value c = above _ _ _ _ _ (sym c.read.ensures ∙ c.in_ok-value.was) c.if-most-value.true
 
-pub returns-in-Fault : goal.returns-in-Fault
-returns-in-Fault c = faulty _ _ _ _ (sym c.read-found.ensures ∙ c.in-Fault.is)
+pub returns : goal.returns
+returns c = kept _ _ _ _ _ (sym c.read.ensures ∙ c.in_ok-value.was) c.if-most-value.false
