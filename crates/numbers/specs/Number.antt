@@ -50,3 +50,7 @@ number_most bytes at most = within at most (number bytes at)
 abbrev pub after {ℓ} : {A : Type 0} {B : Type ℓ} → Found A → (ℕ → B) → (A → ℕ → B) → B
 after (Ok (value, next)) fault good = good value next
 after (Err f) fault good = fault f.place
+
+-- A length that has a limit, and the place of its bytes. Too few bytes after it: the fault is at the input's length
+unfoldable pub length_most : List ℕ → ℕ → ℕ → Found ℕ
+length_most bytes at most = after (number_most bytes at most) fault_at (λ n start. pick (ltb (length bytes - start) n) (fault_at (length bytes)) (found n start))

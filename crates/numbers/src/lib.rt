@@ -3,7 +3,7 @@
 #![tactic(auto)]
 
 ghost use Rattle.std.specs.Prelude.{◌≡◌};
-ghost use Rattle.numbers.specs.Number.{number_of, number, number_most};
+ghost use Rattle.numbers.specs.Number.{number_of, number, number_most, length_most};
 ghost use Rattle.numbers.specs.Width.{Width};
 
 // Where the first fault of a number, or of what is made of numbers, is placed.
@@ -59,4 +59,15 @@ pub fn read_most(bytes: &[u8], at: usize, most: usize) -> Result<(usize, usize),
         return Err(Fault { place: at });
     }
     Ok((value, next))
+}
+
+// The same of a length, which so many bytes follow: the length, and the place of its bytes.
+pub fn read_length(bytes: &[u8], at: usize, most: usize) -> Result<(usize, usize), Fault>
+    ensures { result ≡ length_most bytes.now at most }
+{
+    let (length, start) = read_most(bytes, at, most)?;
+    if bytes.len() - start < length {
+        return Err(Fault { place: bytes.len() });
+    }
+    Ok((length, start))
 }
