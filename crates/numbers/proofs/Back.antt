@@ -11,6 +11,7 @@ use lib.ListN.{length, take, drop, get_or, length-drop, take-append-drop}
 use lib.Seq.{take-append_seam, get_or-drop}
 use borrow.Author.Tests.{lt-ltb, le-ltb, ltb-true, ltb-false, eqb-true, eqb-false}
 use Rattle.laws.proofs.Picks.{by_test}
+use Rattle.numbers.specs.declared.Fault.{Fault}
 use Rattle.numbers.specs.Number.{Found, found, fault_at, ended, groups_from, number_of, number}
 use Rattle.numbers.specs.Width.{Width}
 use Rattle.numbers.specs.Written.{group_bytes, number_bytes}
@@ -37,6 +38,12 @@ by_cases P top start end left weight value at byte rest over long last go =
 -- a fault is no value
 pub no_value : {A : Type 0} (p : ℕ) (a : A) (next : ℕ) → fault_at p ≡ found a next → ⊥
 no_value p a next e = cc
+
+-- a fault has one place
+pub same_place : {A : Type 0} (p q : ℕ) → fault_at {A = A} p ≡ fault_at q → p ≡ q
+same_place p q e =
+    let faults : ◌≡◌ {A = Fault} (record { place = p }) (record { place = q }) = cc in
+    ap (λ f. f.place) faults
 
 -- what is found is one value and one place
 pub same_found : {A : Type 0} (a b : A) (m n : ℕ) → found a m ≡ found b n → (a ≡ b) × (m ≡ n)
