@@ -33,9 +33,6 @@ module _ (t : List ℕ) (h : Header) where
       let r = rest t h.capacity h.count h.first h.count 0 h.first h calls card e in
       ap length r.card_is ∙ length-take-le h.length (drop h.card t) (rw (length-drop h.card t) (omega (arith, r.card_ends)))
 
-  pub rules_differ : OfTrace t h (Comparison None) → OfTrace t h (Ruled h.capacity impossible)
-  rules_differ d calls card e g = d calls card e (left_begins g.end (pieces calls) card g.left).0
-
   module _ (answered held-count : ℕ) (set : List Bool) (a : OfTrace t h (Comparison (Some answered))) (r : OfTrace t h (λ calls card. Reached h.capacity calls set)) (ph : held-count ≡ answered - h.length) where
     -- no other count than this can be what is left
     only_count : OfTrace t h (λ calls card. (g : Goes h.capacity 0 calls (pieces calls) card) → g.end ≡ held-count)

@@ -219,43 +219,11 @@ piece_agrees c p q m e = by (dec_le (length p) (length c))
 
 -- the piece of a call: how long it is, and where it stands in the trace
 module _ (t : List ℕ) (call : TracedCall) (part : call.start + call.length ≤ length t) where
-  bytes_long : length (take call.length (drop call.start t)) ≡ call.length
-  bytes_long = length-take-le call.length (drop call.start t) (rw (length-drop call.start t) (omega arith))
-
   pub piece_long : length (piece (told t call)) ≡ answers call.flush call.length call.claim
-  piece_long = by call.flush call.claim
-    where
-      by : (b : Bool) (c : Claim) → length (piece (pick b (flushed (claimed c)) (wrote (take call.length (drop call.start t)) (claimed c)))) ≡ answers b call.length c
-      by true (Taken m) = refl
-      by true Done = refl
-      by true Interrupted = refl
-      by true Zero = refl
-      by true (Error code) = refl
-      by false (Taken m) = length-take m (take call.length (drop call.start t)) ∙ ap (λ (k : ℕ). min m k) bytes_long
-      by false Done = refl
-      by false Interrupted = refl
-      by false Zero = refl
-      by false (Error code) = refl
+  piece_long = grind (arith, length-take, length-drop)
 
   pub piece_stands : (m : ℕ) → m ≤ answers call.flush call.length call.claim → take m (piece (told t call)) ≡ take m (drop call.start t)
-  piece_stands m = by call.flush call.claim
-    where
-      none : m ≤ 0 → take m [] ≡ take m (drop call.start t)
-      none h =
-          let z : m ≡ 0 = omega arith in
-          rw z
-
-      by : (b : Bool) (c : Claim) → m ≤ answers b call.length c → take m (piece (pick b (flushed (claimed c)) (wrote (take call.length (drop call.start t)) (claimed c)))) ≡ take m (drop call.start t)
-      by true (Taken k) h = none h
-      by true Done h = none h
-      by true Interrupted h = none h
-      by true Zero h = none h
-      by true (Error code) h = none h
-      by false (Taken k) h = take-take m k (take call.length (drop call.start t)) (omega arith) ∙ take-take m call.length (drop call.start t) (omega arith)
-      by false Done h = none h
-      by false Interrupted h = none h
-      by false Zero h = none h
-      by false (Error code) h = none h
+  piece_stands m h = grind (arith, take-take, take-nil)
 
 -- a part of the card, as a part of the trace
 card_part : (t card : List ℕ) (place long matched m : ℕ) → card ≡ take long (drop place t) → matched + m ≤ long → take m (drop matched card) ≡ take m (drop (place + matched) t)
@@ -269,16 +237,7 @@ card_part t card place long matched m e h =
     ∙ ap (λ (l : List ℕ). take m l) (drop-drop matched place t)
 
 answers_most : (b : Bool) (n : ℕ) (c : Claim) → answers b n c ≤ n
-answers_most true n (Taken m) = omega arith
-answers_most true n Done = omega arith
-answers_most true n Interrupted = omega arith
-answers_most true n Zero = omega arith
-answers_most true n (Error code) = omega arith
-answers_most false n (Taken m) = omega arith
-answers_most false n Done = omega arith
-answers_most false n Interrupted = omega arith
-answers_most false n Zero = omega arith
-answers_most false n (Error code) = omega arith
+answers_most b n c = grind arith
 
 in_card : (a b l m : ℕ) → a ≡ min b (l - m) → m ≤ l → (a ≤ b) × (m + a ≤ l)
 in_card a b l m e k = (omega arith, omega arith)

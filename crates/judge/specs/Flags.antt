@@ -39,10 +39,7 @@ pub record Between (low high k : ℕ) : Type 0 where
 -- whether a call says that its slice was stored: a write that is shorter than the capacity claims its length
 abbrev pub stores : ℕ → Bool → ℕ → Claim → Bool
 stores C flush n (Ok m) = not flush && (ltb n C && eqb m n)
-stores C flush n Done = false
-stores C flush n Interrupted = false
-stores C flush n Zero = false
-stores C flush n (Error code) = false
+stores C flush n _ = false
 
 -- the flags at which those of old land, where the slice was stored
 pub record Stored (C : ℕ) (flush : Bool) (n : ℕ) (claim : Claim) (old new : List Bool) : Type 0 where
@@ -51,17 +48,15 @@ pub record Stored (C : ℕ) (flush : Bool) (n : ℕ) (claim : Claim) (old new : 
 -- whether a device write of n bytes, or a device flush, can say this
 abbrev pub directs : ℕ → Claim → Bool
 directs n (Ok m) = leb m n
-directs n Done = false
 directs n Interrupted = true
-directs n Zero = false
 directs n (Error code) = true
+directs n _ = false
 
 abbrev pub syncs : Claim → Bool
-syncs (Ok m) = false
 syncs Done = true
 syncs Interrupted = true
-syncs Zero = false
 syncs (Error code) = true
+syncs _ = false
 
 -- whether the call can leave nothing held
 abbrev pub empties : ℕ → Bool → ℕ → Claim → Bool
@@ -69,11 +64,9 @@ empties C flush n claim = pick flush (syncs claim) (leb C n && directs n claim)
 
 -- whether a flush of the buffer that is stopped can say this
 abbrev pub halts : Claim → Bool
-halts (Ok m) = false
-halts Done = false
-halts Interrupted = false
 halts Zero = true
 halts (Error code) = true
+halts _ = false
 
 -- whether a stopped flush can leave counts from 1 up to the highest flag
 abbrev pub stops : ℕ → Bool → ℕ → Claim → ℕ → Bool
@@ -106,10 +99,7 @@ OfTrace t h P = (calls : List Told) (card : List ℕ) → calls_from t h.capacit
 -- how many bytes a claim answers for: those of an ok, and no more than the slice has
 abbrev pub answers : Bool → ℕ → Claim → ℕ
 answers flush n (Ok m) = pick flush 0 (min m n)
-answers flush n Done = 0
-answers flush n Interrupted = 0
-answers flush n Zero = 0
-answers flush n (Error code) = 0
+answers flush n _ = 0
 
 -- what the comparison says: the card begins the answered bytes, which are so many; or it does not
 abbrev pub Comparison : Option ℕ → List Told → List ℕ → Type 0
