@@ -1,17 +1,16 @@
 -- A call's turn of the flags is the table's.
 -- Assumes nothing.
-use mathlib.Core.Path.{◌≡◌, refl, sym, ap, ◌∙◌, subst}
+use mathlib.Core.Path.{◌≡◌, refl, sym, ◌∙◌, subst}
 use mathlib.Core.Logic.{◌↔◌, ◌⊎◌, inl, inr, ⊎_elim}
 use mathlib.Core.Bool.{Bool, true, false, ◌||◌}
 use mathlib.Core.List.{List}
-use Prim.Native.Nat.{ℕ, ◌+◌, ◌-◌, ◌≤◌, ◌<◌}
-use native.Mathlib.Decide.{dec_le}
+use Prim.Native.Nat.{ℕ, ◌+◌, ◌-◌, ◌<◌}
 use native.Mathlib.Omega.{arith}
 use lib.ListN.{length, get_or, set, take, drop, replicate, length-set}
 use borrow.Rule.Slice.PartMut.{put_mid}
-use lib.Dec.{leb, ltb, eqb}
+use lib.Dec.{leb, ltb}
 use Rattle.std.proofs.lemmas.Bool.Decides.{nat_tests}
-use Rattle.std.proofs.lemmas.Bool.{ltb-true, lt-ltb, leb-true, le-leb, lt-leb, eqb-true, eq-eqb, and_parts, and_from, false≢true}
+use Rattle.std.proofs.lemmas.Bool.{ltb-true, leb-true, and_parts, false≢true}
 use Rattle.card.specs.Answers.{ok}
 use Rattle.trace.specs.declared.Claim.{Claim}
 use Rattle.trace.specs.declared.Claim.TheVariants.{Ok, Done, Interrupted, Zero, Error}

@@ -7,7 +7,7 @@ use Rattle.judge.proofs.flags.stored.Goals as goal
 use Rattle.judge.proofs.flags.stored.Goals.{then-set, else-set}
 
 pub loop-h-init : goal.loop-h-init
-loop-h-init c = record { long = refl; landed = land_begins _ _ 1025 _}
+loop-h-init c = record { long = refl; landed = land_begins _ _ 1025 _ }
 
 pub loop-h-preserved : goal.loop-h-preserved
 loop-h-preserved c =
