@@ -21,6 +21,7 @@ pub struct State {
 }
 
 // A writer for one call: its state, what is lent with it, and how many device calls the call made.
+// The script is lent for a time of its own, since it is read while the medium is lent on.
 #[derive(Drop)]
 pub struct BufWriter<'a, 's> {
     pub state: State,
@@ -38,13 +39,7 @@ impl<'a, 's> BufWriter<'a, 's> {
         script: &'s [u32],
         medium: &'a mut [u8],
     ) -> BufWriter<'a, 's>
-        ensures same_storage { result.storage.ghost_name ≡ storage.entry.ghost_name }
-        ensures same_medium { result.medium.ghost_name ≡ medium.entry.ghost_name }
-        ensures script { result.script ≡ script.entry }
-        ensures storage { result.storage.now ≡ storage.old }
-        ensures medium { result.medium.now ≡ medium.old }
-        ensures state { result.state ≡ state }
-        ensures calls { result.calls ≡ 0 }
+        ensures { result ≡ record { state = state; storage = storage.entry; script = script.entry; medium = medium.entry; calls = 0 } }
     {
         BufWriter {
             state,
