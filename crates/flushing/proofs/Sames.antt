@@ -60,3 +60,16 @@ send_all_one script source m used out r q x y e f =
 
 pub numbers_one : (w : BufWriter) (r q : Numbers) → r ≡ numbers w → q ≡ numbers w → r ≡ q
 numbers_one w = one (numbers w)
+
+-- a new writer: w and x are both in the state and on the loans of v, with its calls
+pub new_one : (v w x : BufWriter) → w.state ≡ v.state → x.state ≡ v.state → w.calls ≡ v.calls → x.calls ≡ v.calls → w.storage.now ≡ v.storage.now → x.storage.now ≡ v.storage.now → w.medium.now ≡ v.medium.now → x.medium.now ≡ v.medium.now → Lent v w → Lent v x → Left v w x
+new_one v w x sw sx cw cx bw bx mw mx lw lx =
+    record {
+      state = sw ∙ sym sx;
+      calls = cw ∙ sym cx;
+      storage = bw ∙ sym bx;
+      medium = mw ∙ sym mx;
+      script = lw.script ∙ sym lx.script;
+      same_storage = lw.storage ∙ sym lx.storage;
+      same_medium = lw.medium ∙ sym lx.medium;
+    }

@@ -30,7 +30,31 @@ pub struct BufWriter<'a, 's> {
     pub calls: usize,
 }
 
-impl BufWriter<'_, '_> {
+impl<'a, 's> BufWriter<'a, 's> {
+    // In this state, with no device call made yet.
+    pub fn new(
+        state: State,
+        storage: &'a mut [u8],
+        script: &'s [u32],
+        medium: &'a mut [u8],
+    ) -> BufWriter<'a, 's>
+        ensures same_storage { result.storage.ghost_name ≡ storage.entry.ghost_name }
+        ensures same_medium { result.medium.ghost_name ≡ medium.entry.ghost_name }
+        ensures script { result.script ≡ script.entry }
+        ensures storage { result.storage.now ≡ storage.old }
+        ensures medium { result.medium.now ≡ medium.old }
+        ensures state { result.state ≡ state }
+        ensures calls { result.calls ≡ 0 }
+    {
+        BufWriter {
+            state,
+            storage,
+            script,
+            medium,
+            calls: 0,
+        }
+    }
+
     // What the limits are asked of.
     pub fn numbers(&self) -> Numbers
         ensures { result ≡ numbers self.now }

@@ -83,11 +83,11 @@ flush_counts script w = then_counts w _ _ (flush_buf_counts script w) (λ v. dev
 
 -- ---- so they make few of them
 
-device_write_uses : (script : List ℕ) (w : World) (s : List ℕ) → Uses script w (device_write script w s)
+pub device_write_uses : (script : List ℕ) (w : World) (s : List ℕ) → Uses script w (device_write script w s)
 unfolding device_write Uses exchange
 device_write_uses script w s h = takes_fit script w.used h
 
-device_write_all_uses : (script : List ℕ) (w : World) (s : List ℕ) → Uses script w (device_write_all script w s)
+pub device_write_all_uses : (script : List ℕ) (w : World) (s : List ℕ) → Uses script w (device_write_all script w s)
 unfolding device_write_all Uses
 device_write_all_uses script w s h =
     let left : length (replies script w) ≡ length script - w.used = length-drop w.used script in
