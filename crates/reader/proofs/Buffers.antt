@@ -56,11 +56,12 @@ gives e left used a b n pe pn =
     let h : moves e.reply ≤ min a b = rw pe (exchange_most left used (min a b)) in
     omega arith
 
--- the same of a read into the storage from a place on
-pub gives_more : (script stock s : List ℕ) (st : State) (e : Exchange) (n : ℕ) → e ≡ exchange (drop st.used script) st.used (min (length (take (length s - st.filled) (drop st.filled s))) (length stock - st.taken)) → n ≡ moves e.reply → (n ≤ length s - st.filled) × (n ≤ length stock - st.taken)
-gives_more script stock s st e n pe pn =
+-- the same of a read into the storage from a place on: what it gives fits behind what is filled, and there was as much
+pub gives_more : (script stock s : List ℕ) (st : State) (e : Exchange) (n : ℕ) → e ≡ exchange (drop st.used script) st.used (min (length (take (length s - st.filled) (drop st.filled s))) (length stock - st.taken)) → n ≡ moves e.reply → Fit script stock (world s st) → (st.filled + n ≤ length s) × (st.taken + n ≤ length stock)
+gives_more script stock s st e n pe pn f =
     let q : length (take (length s - st.filled) (drop st.filled s)) ≡ length s - st.filled = ap length (rest st.filled s) ∙ length-drop st.filled s in
-    gives e (drop st.used script) st.used (length s - st.filled) (length stock - st.taken) n (rw q at pe) pn
+    let g = gives e (drop st.used script) st.used (length s - st.filled) (length stock - st.taken) n (rw q at pe) pn in
+    (omega (arith, g.0, f.filled_in), omega (arith, g.1, f.taken_in))
 
 pub more_got : (script stock s x : List ℕ) (st : State) (e : Exchange) (n k : ℕ) → e ≡ exchange (drop st.used script) st.used (min (length (take (length s - st.filled) (drop st.filled s))) (length stock - st.taken)) → x ≡ put (take (length s - st.filled) (drop st.filled s)) 0 (drop st.taken stock) (moves e.reply) → n ≡ moves e.reply → record { reply = e.reply; calls = k + 1; world = world (put_mid st.filled (length s - st.filled) s x) (record { pos = st.pos; filled = st.filled + n; taken = st.taken + n; used = e.used }) } ≡ since k (read_more (drop st.used script) stock (world s st))
 unfolding read_more added

@@ -57,9 +57,7 @@ enough_left (r ∷ rest) stock n calls w h = rw (le-leb _ _ h) refl
 -- past the script's end no bytes are given
 pub end_accepts : (stock : List ℕ) (v : World) (k : ℕ) → (read_more [] stock v).reply ≡ accept k → ⊥
 unfolding read_more added exchange next at_most
-end_accepts stock v k e =
-    let z : ◌≡◌ {A = ℕ} 0 1 = cc in
-    omega arith
+end_accepts stock v k e = cc
 
 -- one reply goes by
 one_used : (r : ℕ) (rest stock : List ℕ) (v : World) → (read_more (r ∷ rest) stock v).world.state.used ≡ v.state.used + 1

@@ -33,9 +33,7 @@ negative (negsuc k) t = record { less = k; is = refl }
 
 natural : (z : ℤ) → lt_z z (pos 0) ≡ false → Natural z
 natural (pos n) t = record { size = n; is = refl }
-natural (negsuc k) t =
-    let z : ◌≡◌ {A = ℕ} 0 1 = cc in
-    absurd (omega arith)
+natural (negsuc k) t = cc
 
 -- what is told of an offset that is read back from its bits is told of the offset
 module _ (z : ℤ) (f : SFits w64 z) where

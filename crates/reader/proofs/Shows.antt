@@ -77,7 +77,7 @@ after_ends n (Ok j) calls v on i few o = by (eqb j 0) (λ e. eqb-true j 0 e)
     by : (b : Bool) → (b ≡ true → j ≡ 0) → Ends n (pick b (record { reply = accept (count v.state); calls = calls; world = v }) on)
     by true z = record { inside = i; told = λ k e. let q = same_count (count v.state) k e in let l = few j refl (z refl) in omega arith }
     by false z = o
-after_ends n (Err r) calls v on i few o = record { inside = i; told = λ k e. let z : ◌≡◌ {A = ℕ} 0 1 = cc in absurd (omega arith) }
+after_ends n (Err r) calls v on i few o = record { inside = i; told = λ k e. cc }
 
 turn_ends : (left stock : List ℕ) (n calls : ℕ) (w : World) (on : World → Fetched) → Inside w → ((v : World) → Inside v → Ends n (on v)) → Ends n (peek_turn left stock n calls w on)
 unfolding peek_turn
@@ -100,7 +100,7 @@ turn_ends left stock n calls w on i o = by (leb n (count w.state)) (λ e. leb-tr
     by false h g = after_ends n (read_more left stock (shifted_back w)).reply _ (read_more left stock (shifted_back w)).world _ m (few (g refl)) (o (read_more left stock (shifted_back w)).world m)
 
 failed_ends : (n calls : ℕ) (v : World) → Inside v → Ends n (record { reply = error 0; calls = calls; world = v })
-failed_ends n calls v i = record { inside = i; told = λ k e. let z : ◌≡◌ {A = ℕ} 0 1 = cc in absurd (omega arith) }
+failed_ends n calls v i = record { inside = i; told = λ k e. cc }
 
 loop_ends : (left stock : List ℕ) (n calls : ℕ) (w : World) → Inside w → Ends n (peek_loop left stock n calls w)
 unfolding peek_loop
@@ -114,8 +114,8 @@ length_shown n w i = simp (length-take, length-drop) (omega (arith, i.filled_in)
 -- the answer tells the reply
 ok_accept : (r : Reply) (k : ℕ) → handed r ≡ ok k → r ≡ accept k
 ok_accept (Ok j) k e = cc
-ok_accept (Err Interrupted) k e = let z : ◌≡◌ {A = ℕ} 0 1 = cc in absurd (omega arith)
-ok_accept (Err (Error code)) k e = let z : ◌≡◌ {A = ℕ} 0 1 = cc in absurd (omega arith)
+ok_accept (Err Interrupted) k e = cc
+ok_accept (Err (Error code)) k e = cc
 
 -- what `peeked` hands out after `peek` is as long as `peek` answered
 pub peek_shows : (script stock : List ℕ) (n k : ℕ) (w : World) → (peek script stock n w).answer ≡ ok k → length (shown n (peek script stock n w).world) ≡ k
@@ -128,4 +128,4 @@ peek_shows script stock n k w e = by (eqb (refusal script stock w (peek_refusal 
         let i : Inside w = record { pos_in = f.pos_in; filled_in = f.filled_in } in
         let x = loop_ends (drop w.state.used script) stock n 0 w i in
         length_shown n _ x.inside ∙ sym (x.told k (ok_accept _ k q))
-    by false h q = let z : ◌≡◌ {A = ℕ} 0 1 = cc in absurd (omega arith)
+    by false h q = cc

@@ -16,7 +16,7 @@ ghost use Rattle.reader.specs.Reader.{handed, buffered, refusal, peek_refusal, s
 ghost use Rattle.reader.specs.Buffer as Buffer;
 
 use card::limits::{Refusal, check_length};
-use card::{Failure, Reply, bytes, device};
+use card::{Failure, Reply, device};
 
 // What a reader knows between calls: its place in the storage and how much of that is filled,
 // the bytes taken of the stock, and the replies used of the script.
@@ -56,6 +56,7 @@ fn check_peek(capacity: usize, n: usize) -> Result<(), Refusal>
 }
 
 impl<'a> BufReader<'a> {
+    // A reader with this state, over what is lent.
     pub fn new(
         state: State,
         storage: &'a mut [u8],
@@ -171,7 +172,7 @@ impl BufReader<'_> {
         ensures call { reading (ok result) self.new destination.new ≡ copied destination.old (buffered (world_of self.old)) }
     {
         let State { pos, filled, .. } = self.state;
-        let n = bytes::least(filled - pos, destination.len());
+        let n = (filled - pos).min(destination.len());
         self.copy_out(destination, n);
         self.state.pos = pos + n;
         n

@@ -7,8 +7,8 @@ ghost use Rattle.reader.specs.Buffer as Buffer;
 ghost use Rattle.reader.specs.Reader.{seek_refusal, sought, consume, seek_relative};
 
 use crate::{Sizes, State};
+use card::Failure;
 use card::limits::{Numbers, Refusal};
-use card::{Failure, bytes};
 
 // The size of an offset. The lowest value's size fits no i64.
 fn magnitude(offset: i64) -> usize
@@ -44,7 +44,7 @@ impl State {
     pub(crate) fn count(self) -> usize
         ensures { result ≡ count self }
     {
-        bytes::left(self.filled, self.pos)
+        self.filled.saturating_sub(self.pos)
     }
 
     // What `peek` for n shows after it answered: the part of the storage itself, from pos, of n or
@@ -52,9 +52,9 @@ impl State {
     pub fn peeked(self, storage: &[u8], n: usize) -> &[u8]
         ensures { result.now ≡ shown n (world storage.now self) }
     {
-        let from = bytes::least(self.pos, storage.len());
-        let held = bytes::least(n, self.count());
-        let to = from + bytes::least(held, storage.len() - from);
+        let from = self.pos.min(storage.len());
+        let held = n.min(self.count());
+        let to = from + held.min(storage.len() - from);
         &storage[from..to]
     }
 
@@ -96,7 +96,7 @@ impl State {
         ensures { result ≡ Buffer.consume amt self }
     {
         State {
-            pos: self.pos + bytes::least(amt, self.count()),
+            pos: self.pos + amt.min(self.count()),
             ..self
         }
     }
@@ -105,7 +105,7 @@ impl State {
         ensures { result ≡ Buffer.unconsume amt self }
     {
         State {
-            pos: bytes::left(self.pos, amt),
+            pos: self.pos.saturating_sub(amt),
             ..self
         }
     }

@@ -4,14 +4,10 @@ use Rattle.reader.proofs.Buffers.{gives_more, more_got}
 use Rattle.reader.proofs.BufReader.read_more.Goals as goal
 
 pub overflow_add-self-2 : goal.overflow_add-self-2
-overflow_add-self-2 c =
-    let g = gives_more c.args.self.now.script.now c.args.self.now.stock.now c.args.self.now.storage.now c.args.self.now.state _ _ c.read-e.ensures.0 c.moved-n.ensures in
-    omega (arith, c.requires.fit.filled_in, g.0)
+overflow_add-self-2 c = omega (arith, (gives_more _ _ _ c.args.self.now.state _ _ c.read-e.ensures.0 c.moved-n.ensures c.requires.fit).0)
 
 pub overflow_add-self-3 : goal.overflow_add-self-3
-overflow_add-self-3 c =
-    let g = gives_more c.args.self.now.script.now c.args.self.now.stock.now c.args.self.now.storage.now c.args.self.now.state _ _ c.read-e.ensures.0 c.moved-n.ensures in
-    omega (arith, c.requires.fit.taken_in, g.1)
+overflow_add-self-3 c = omega (arith, (gives_more _ _ _ c.args.self.now.state _ _ c.read-e.ensures.0 c.moved-n.ensures c.requires.fit).1)
 
 pub returns-clause-more : goal.returns-clause-more
-returns-clause-more c = more_got c.args.self.now.script.now c.args.self.now.stock.now c.args.self.now.storage.now _ c.args.self.now.state _ _ _ c.read-e.ensures.0 c.read-e.ensures.1 c.moved-n.ensures
+returns-clause-more c = more_got _ _ _ _ c.args.self.now.state _ _ _ c.read-e.ensures.0 c.read-e.ensures.1 c.moved-n.ensures

@@ -5,4 +5,4 @@ use Rattle.reader.proofs.Buffers.{part_shown}
 use Rattle.reader.proofs.State.peeked.Goals as goal
 
 pub returns : goal.returns
-returns c = part_shown c.args.storage.now c.args.self _ _ _ _ c.least-from.ensures (c.least-held.ensures ∙ ap (λ (k : ℕ). min c.args.n k) c.count.ensures) c.least.ensures
+returns c = part_shown c.args.storage.now c.args.self _ _ _ _ c.min-from.ensures (c.min-held.ensures ∙ ap (λ (k : ℕ). min c.args.n k) c.count.ensures) c.min.ensures
