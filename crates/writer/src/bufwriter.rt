@@ -1,8 +1,9 @@
 // Module 3, the buffered writer: std's bufwriter.rs. Its `flush_buf` is in crate flushing.
 ghost use Rattle.std.specs.Prelude.{◌≡◌, ◌+◌, ◌≤◌, min, length, take};
 ghost use Rattle.laws.specs.Put.{put};
+ghost use Rattle.card.specs.Limits.{length_refusal};
 ghost use Rattle.card.specs.Answers.{said_count, said_done};
-ghost use Rattle.flushing.specs.World.{Fit, Sound, Lent, world, counting, kept, left, tells, reported, fresh, told};
+ghost use Rattle.flushing.specs.World.{Fit, Sound, Lent, world, counting, tells, reported, refusing, fresh};
 ghost use Rattle.writer.specs.Writer.{placed, readied, cold, written, write_call, write_all_call, flush_call};
 
 use crate::way::Way;
@@ -80,6 +81,17 @@ fn unrefused<T: Way>(w: &mut BufWriter<'_, '_>, slice: &[u8]) -> Result<T, Failu
     cold(w, slice)
 }
 
+// Either call, on every input.
+fn call<T: Way>(w: &mut BufWriter<'_, '_>, slice: &[u8]) -> Result<T, Failure>
+    ensures lent { Lent w.old w.new }
+    ensures told { tells (T.says result) w.new ≡ reported (refusing w.old.script.now (world w.old) (length_refusal (length slice.now)) (λ u. written w.old.script.now (T.stored (length slice.now)) (λ v. T.direct w.old.script.now v slice.now) u slice.now)) }
+{
+    w.calls = 0;
+    w.numbers().check()?;
+    limits::check_length(slice.len())?;
+    unrefused(w, slice)
+}
+
 // ---- the public calls
 
 // The state of a new writer.
@@ -105,20 +117,14 @@ pub fn write(w: &mut BufWriter<'_, '_>, slice: &[u8]) -> Result<usize, Failure>
     ensures lent { Lent w.old w.new }
     ensures told { tells (said_count result) w.new ≡ reported (write_call w.old.script.now (world w.old) slice.now) }
 {
-    w.calls = 0;
-    w.numbers().check()?;
-    limits::check_length(slice.len())?;
-    unrefused(w, slice)
+    call(w, slice)
 }
 
 pub fn write_all(w: &mut BufWriter<'_, '_>, slice: &[u8]) -> Result<(), Failure>
     ensures lent { Lent w.old w.new }
     ensures told { tells (said_done result) w.new ≡ reported (write_all_call w.old.script.now (world w.old) slice.now) }
 {
-    w.calls = 0;
-    w.numbers().check()?;
-    limits::check_length(slice.len())?;
-    unrefused(w, slice)
+    call(w, slice)
 }
 
 // The flush of the buffer, then the device's. What the first refuses or fails at is the answer.
