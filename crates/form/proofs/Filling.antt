@@ -10,8 +10,9 @@ use lib.ListN.{length, take, drop, get_or, set, length-set, length-drop}
 use lib.Seq.{take_all, drop-drop, get_or-drop}
 use Rattle.laws.specs.Put.{put}
 use Rattle.laws.proofs.Puts.{put_none, put_more, take_put}
-use Rattle.numbers.specs.declared.Number.TheVariants.{Value, Fault as NoNumber}
-use Rattle.numbers.specs.Number.{number_most}
+use Rattle.std.specs.Prelude.{Err}
+use Rattle.numbers.specs.declared.Fault.{Fault}
+use Rattle.numbers.specs.Number.{found, number_most}
 use Rattle.form.specs.Replies.{word_most, replies_in}
 use Rattle.form.proofs.Walks.{in_next, in_fault, in_none}
 
@@ -34,7 +35,7 @@ module _ (t : List ℕ) (count first : ℕ) (lent : List ℕ) where
   }
 
   module _ (script : List ℕ) (done at : ℕ) (w : Filled script done at) where
-    pub again : (reply next : ℕ) → number_most t at word_most ≡ Value reply next → done < min count (length lent) → Filled (set script done reply) (done + 1) next
+    pub again : (reply next : ℕ) → number_most t at word_most ≡ found reply next → done < min count (length lent) → Filled (set script done reply) (done + 1) next
     again reply next e h =
         let all = replies_in t count first in
         let rest = replies_in t (count - done - 1) next in
@@ -58,9 +59,9 @@ module _ (t : List ℕ) (count first : ℕ) (lent : List ℕ) where
         let q : length (replies_in t count first) - done ≡ 0 = sym (length-drop done (replies_in t count first)) ∙ ap length e in
         omega (arith, w.some)
 
-    pub stop : (place : ℕ) → number_most t at word_most ≡ NoNumber place → script ≡ put lent 0 (replies_in t count first) (min (length (replies_in t count first)) (length lent))
-    stop place e =
-        let q = none_left (w.left ∙ in_fault t (count - done) at place e) in
+    pub stop : (f : Fault) → number_most t at word_most ≡ Err f → script ≡ put lent 0 (replies_in t count first) (min (length (replies_in t count first)) (length lent))
+    stop f e =
+        let q = none_left (w.left ∙ in_fault t (count - done) at f e) in
         exact (min (length (replies_in t count first)) (length lent)) (omega (arith, w.room))
 
     -- at the end either they are all there, or the script is full
