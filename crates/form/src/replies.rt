@@ -29,11 +29,11 @@ pub fn read_replies(session: &[u8], count: usize, first: usize, script: &mut [u3
 {
     let most = bytes::least(count, script.len());
     let mut at = first;
-    for done in 0..most {
+    for place in script[..most].iter_mut() {
         let Ok((reply, next)) = numbers::read_most(session, at, REPLY_MOST) else {
             return;
         };
-        script[done] = reply as u32;
+        *place = reply as u32;
         at = next;
     }
 }
