@@ -1,21 +1,16 @@
--- A walk over the replies or the calls of a session, one by one: the loop that passes them, and what a later walk goes by.
+-- A walk over the replies or the calls of a session, one by one: what a later walk goes by.
 -- Assumes nothing.
-use mathlib.Core.Path.{◌≡◌, refl, sym, ap, ◌∙◌}
+use mathlib.Core.Path.{◌≡◌, refl, sym, ◌∙◌}
 use mathlib.Core.List.{List, [], ◌∷◌}
-use Prim.Native.Nat.{ℕ, zero, suc, ◌+◌, ◌-◌, ◌≤◌, ◌<◌}
+use Prim.Native.Nat.{ℕ, zero, suc, ◌-◌, ◌≤◌, ◌<◌}
 use native.Mathlib.Omega.{arith}
-use Rattle.std.specs.Prelude.{Ok, Err}
+use Rattle.std.specs.Prelude.{Err}
 use Rattle.numbers.specs.declared.Fault.{Fault}
 use Rattle.numbers.specs.Number.{found, number_most}
 use Rattle.form.specs.declared.Call.{Call}
-use Rattle.form.specs.Lists.{Listed, listed, stopped, before, skipped}
+use Rattle.form.specs.Lists.{Listed, listed, stopped, before}
 use Rattle.form.specs.Replies.{word_most, replies_from, replies_in}
 use Rattle.form.specs.Calls.{asked, call_at, calls_from}
-
--- one more in front does not move the end
-skipped_before : {A : Type 0} (x : A) (l : Listed A) → skipped (before x l) ≡ skipped l
-skipped_before x (listed all next) = refl
-skipped_before x (stopped place) = refl
 
 -- a fault is no list
 pub no_list : {A : Type 0} (place : ℕ) (all : List A) (end : ℕ) → stopped place ≡ listed all end → ⊥
@@ -23,25 +18,6 @@ no_list place all end e = cc
 
 -- Of things that are read one after the other, so many from a place on: `from left at`
 module _ {A : Type 0} (from : ℕ → ℕ → Listed A) where
-  -- At the head of a turn, after `done` of them, the whole ends where the rest ends
-  pub record Turn (count first done at : ℕ) : Type 0 where
-    pub same : skipped (from count first) ≡ skipped (from (count - done) at)
-
-  pub start : (count first : ℕ) → Turn count first 0 first
-  start count first = record { same = ap (λ (n : ℕ). skipped (from n first)) (omega arith) }
-
-  module _ (count first done at : ℕ) (w : Turn count first done at) where
-    pub again : (x : A) (next : ℕ) → from (count - done) at ≡ before x (from (count - done - 1) next) → Turn count first (done + 1) next
-    again x next e =
-        let less : count - done - 1 ≡ count - (done + 1) = omega arith in
-        record { same = w.same ∙ ap skipped e ∙ skipped_before x (from (count - done - 1) next) ∙ ap (λ (n : ℕ). skipped (from n next)) less }
-
-    pub stop : (f : Fault) → from (count - done) at ≡ stopped f.place → Err f ≡ skipped (from count first)
-    stop f e = sym (w.same ∙ ap skipped e)
-
-    pub end : from (count - done) at ≡ listed [] at → Ok at ≡ skipped (from count first)
-    end e = sym (w.same ∙ ap skipped e)
-
   -- A later walk: where the rest is read without a fault, what is read next stands in front of it
   pub record Next (all : List A) (end left next : ℕ) (x : A) : Type 0 where
     pub later : List A

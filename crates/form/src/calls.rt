@@ -1,7 +1,6 @@
 // The calls of a session.
 ghost use Rattle.std.specs.Prelude.{◌≡◌};
-ghost use Rattle.form.specs.Calls.{seek_at, writer_call, reader_call, call_at, calls_from};
-ghost use Rattle.form.specs.Lists.{skipped};
+ghost use Rattle.form.specs.Calls.{seek_at, writer_call, reader_call, call_at};
 
 use crate::Call;
 use card::limits;
@@ -84,16 +83,4 @@ pub fn read_call(session: &[u8], kind: usize, at: usize) -> Result<(Call, usize)
         return read_reader(session, at, number, next);
     }
     read_writer(session, at, number, next)
-}
-
-// The place after so many calls from a place on.
-pub(crate) fn skip(session: &[u8], kind: usize, count: usize, first: usize) -> Result<usize, Fault>
-    ensures { result ≡ skipped (calls_from session.now kind count first) }
-{
-    let mut at = first;
-    for _ in 0..count {
-        let (_, next) = read_call(session, kind, at)?;
-        at = next;
-    }
-    Ok(at)
 }

@@ -4,6 +4,7 @@
 #![tactic(auto)]
 
 pub mod calls;
+mod lists;
 pub mod replies;
 pub mod whole;
 

@@ -2,7 +2,8 @@
 ghost use Rattle.std.specs.Prelude.{◌≡◌};
 ghost use Rattle.form.specs.Session.{stock_of, session_of, checked};
 
-use crate::{Checked, Header, calls, replies};
+use crate::replies::REPLY_MOST;
+use crate::{Checked, Header, calls, lists};
 use card::limits;
 use numbers::Fault;
 
@@ -36,10 +37,14 @@ pub fn check(session: &[u8]) -> Result<Checked, Fault>
     }
     let (capacity, next) = numbers::read_most(session, next, limits::CAPACITY_MOST)?;
     let (replies, script) = numbers::read_most(session, next, limits::SCRIPT_MOST)?;
-    let at = replies::skip(session, replies, script)?;
+    let at = lists::skip(
+        replies,
+        script,
+        |at| numbers::read_most(session, at, REPLY_MOST),
+    )?;
     let (length, stock) = read_stock(session, kind, at)?;
     let (count, first) = numbers::read_most(session, stock + length, CALLS_MOST)?;
-    let end = calls::skip(session, kind, count, first)?;
+    let end = lists::skip(count, first, |at| calls::read_call(session, kind, at))?;
     if end < session.len() {
         return Err(Fault { place: end });
     }
