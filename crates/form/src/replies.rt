@@ -10,6 +10,7 @@ pub(crate) const REPLY_MOST: usize = 4294967295;
 
 // So many replies from a place on, into the first places of a lent script. For every input: it
 // stops at the first fault, and where the script is full. Every other place of it stays.
+#[tactic(auto, using(numbers::proofs::Most::most_value))]
 pub fn read_replies(session: &[u8], count: usize, first: usize, script: &mut [u32])
     ensures { script.new ≡ put script.old 0 (replies_in session.now count first) (min (length (replies_in session.now count first)) (length script.old)) }
 {

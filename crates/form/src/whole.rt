@@ -12,6 +12,7 @@ pub const SESSION_MOST: usize = 32768;
 pub const CALLS_MOST: usize = 1024;
 
 // For a reader the stock; no bytes for a writer.
+#[tactic(auto, unfolding(crate::specs::Session::stock_of, crate::specs::Calls::length_at))]
 fn read_stock(session: &[u8], kind: usize, at: usize) -> Result<(usize, usize), Fault>
     ensures { result ≡ stock_of session.now kind at }
 {
@@ -23,6 +24,7 @@ fn read_stock(session: &[u8], kind: usize, at: usize) -> Result<(usize, usize), 
 
 // The whole session, left to right: kind, capacity, reply count, replies, stock, call count, calls,
 // then nothing.
+#[tactic(auto, using(crate::proofs::Within::stock_part), unfolding(crate::specs::Session::session_of, crate::specs::Session::capacity_at, crate::specs::Session::replies_at, crate::specs::Session::script_at, crate::specs::Session::stock_at, crate::specs::Session::count_at, crate::specs::Session::calls_of))]
 pub fn check(session: &[u8]) -> Result<Checked, Fault>
     ensures { result ≡ checked (session_of session.now) }
 {

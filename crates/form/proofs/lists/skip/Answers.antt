@@ -1,9 +1,6 @@
 use Rattle.numbers.proofs.Most.{handed_on}
-use Rattle.form.proofs.Skipping.{start, again, stop, end}
+use Rattle.form.proofs.Skipping.{again, stop, end}
 use Rattle.form.proofs.lists.skip.Goals as goal
-
-pub loop-init : goal.loop-init
-loop-init g c = start _ _ _
 
 pub returns-in_err-next : goal.returns-in_err-next
 returns-in_err-next g c = rw (handed_on _ _ c.from_residual.ensures.1) (stop _ _ _ _ _ c.loop.invariant _ c.in_err-next.ensures c.loop-test.true)
