@@ -1,4 +1,4 @@
--- A walk over the replies or the calls of a session, one by one: what a later walk goes by.
+-- A walk over the calls of a session, or over the replies that can be read, one by one.
 -- Assumes nothing.
 use mathlib.Core.Path.{◌≡◌, refl, sym, ◌∙◌}
 use mathlib.Core.List.{List, [], ◌∷◌}
@@ -9,12 +9,8 @@ use Rattle.numbers.specs.declared.Fault.{Fault}
 use Rattle.numbers.specs.Number.{found, number_most}
 use Rattle.form.specs.declared.Call.{Call}
 use Rattle.form.specs.Lists.{Listed, listed, stopped, before}
-use Rattle.form.specs.Replies.{word_most, replies_from, replies_in}
+use Rattle.form.specs.Replies.{word_most, replies_in}
 use Rattle.form.specs.Calls.{asked, call_at, calls_from}
-
--- a fault is no list
-pub no_list : {A : Type 0} (place : ℕ) (all : List A) (end : ℕ) → stopped place ≡ listed all end → ⊥
-no_list place all end e = cc
 
 -- Of things that are read one after the other, so many from a place on: `from left at`
 module _ {A : Type 0} (from : ℕ → ℕ → Listed A) where
@@ -31,28 +27,10 @@ module _ {A : Type 0} (from : ℕ → ℕ → Listed A) where
       by (listed later last) r s =
           let h : last ≡ end = cc in
           record { later = later; front = cc; goes = cc }
-      by (stopped place) r s = absurd (no_list place all end s)
+      by (stopped place) r s = absurd (cc)
 
 -- The definitions' steps as equations, for any count
 module _ (t : List ℕ) where
-  pub reply_next : (left at reply next : ℕ) → number_most t at word_most ≡ found reply next → 0 < left → replies_from t left at ≡ before reply (replies_from t (left - 1) next)
-  unfolding replies_from
-  reply_next zero at reply next e h = absurd (omega arith)
-  reply_next (suc left) at reply next e h =
-      let same : suc left - 1 ≡ left = omega arith in
-      rw (e, same) refl
-
-  pub reply_fault : (left at : ℕ) (f : Fault) → number_most t at word_most ≡ Err f → 0 < left → replies_from t left at ≡ stopped f.place
-  unfolding replies_from
-  reply_fault zero at f e h = absurd (omega arith)
-  reply_fault (suc left) at f e h = rw e refl
-
-  pub reply_none : (left at : ℕ) → left ≤ 0 → replies_from t left at ≡ listed [] at
-  unfolding replies_from
-  reply_none zero at h = refl
-  reply_none (suc left) at h = absurd (omega arith)
-
-  -- the same of the replies that can be read
   pub in_next : (left at reply next : ℕ) → number_most t at word_most ≡ found reply next → 0 < left → replies_in t left at ≡ reply ∷ replies_in t (left - 1) next
   unfolding replies_in
   in_next zero at reply next e h = absurd (omega arith)
