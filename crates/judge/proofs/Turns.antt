@@ -115,8 +115,8 @@ leads_kinds C flush n claim old most k h t x s = grind (arith, nat_tests, has_wi
 -- ---- a turn
 
 -- without a flag nothing follows
-pub none_turned : (C : ℕ) (flush : Bool) (n : ℕ) (claim : Claim) (old : List Bool) (m : ℕ) → ((k : ℕ) → Has old k → ⊥) → Turned C flush n claim old (replicate m false)
-none_turned C flush n claim old m none = record { at = λ k. ((λ x. absurd (none_set m k x)), (λ x. absurd (none x.from x.set))) }
+pub none_turned : (C : ℕ) (flush : Bool) (n : ℕ) (claim : Claim) (old : List Bool) → ((k : ℕ) → Has old k → ⊥) → Turned C flush n claim old old
+none_turned C flush n claim old none = record { at = λ k. ((λ x. absurd (none k x)), (λ x. absurd (none x.from x.set))) }
 
 turned : (C : ℕ) (flush : Bool) (n : ℕ) (claim : Claim) (old new : List Bool) (most : ℕ) → Highest old most → ((k : ℕ) → Has new k ↔ Kinds C flush n claim old most k) → Turned C flush n claim old new
 turned C flush n claim old new most t i =

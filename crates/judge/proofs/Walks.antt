@@ -8,12 +8,12 @@ use Prim.Native.Nat.{ℕ, ◌+◌, ◌-◌, ◌≤◌, ◌<◌, min}
 use native.Mathlib.Decide.{dec_le}
 use native.Mathlib.Nat.{sub-zero}
 use native.Mathlib.Omega.{arith}
-use lib.ListN.{length, take, drop, set, replicate, length-append, length-take, length-drop, take-append-drop, drop_of_length-le}
+use lib.ListN.{length, take, drop, length-append, length-take, length-drop, take-append-drop, drop_of_length-le}
 use lib.Seq.{take_all, take-append-le, take-append-add, take_at, drop_at, take-take, drop-drop, length-take-le, take-nil}
 use lib.Dec.{eqb}
 use Rattle.std.specs.Prelude.{Option, Some, None, Ok, Err}
 use Rattle.std.specs.Bool.{then_some}
-use Rattle.std.proofs.lemmas.List.{drop-take, places}
+use Rattle.std.proofs.lemmas.List.{drop-take}
 use Rattle.std.proofs.lemmas.Bool.{eqb-true, eqb-false}
 use Rattle.trace.specs.declared.Claim.{Claim}
 use Rattle.numbers.specs.declared.Fault.{Fault}
@@ -73,41 +73,41 @@ pub record Here (t : List ℕ) (h : Header) (gone total at : ℕ) (flags : List 
   pub is : ahead t h gone total at ≡ trace h rest card
   pub same : (e : ℕ) → From h.capacity flags rest e ↔ Reach h.capacity 0 calls e
 
-pub record Inv (t : List ℕ) (h : Header) (gone total at : ℕ) (flags : List Bool) : Type 0 where
+pub record Inv (t : List ℕ) (h : Header) (gone total at C : ℕ) (flags : List Bool) : Type 0 where
   pub few : total ≤ 16384
+  pub same : C ≡ h.capacity
   pub here : OfTrace t h (Here t h gone total at flags)
 
 -- a call's step in the trace, and by its numbers
 step_told : (t : List ℕ) (C h k : ℕ) (call : TracedCall) → call.start + call.length ≤ length t → StepOf C h call.flush call.length call.claim k ↔ Step C h (told t call) k
 step_told t C h k call p = grind (arith, length-take, length-drop)
 
--- nothing held is where a new writer begins
-one_flag : (m k : ℕ) → Has (set (replicate m false) 0 true) k → k ≡ 0
-one_flag m k x = grind (arith, places)
-
 module _ (t : List ℕ) (h : Header) where
-  pub begins : Inv t h 0 0 h.first (set (replicate 1025 false) 0 true)
-  begins =
+  pub begins : (C : ℕ) (flags : List Bool) → C ≡ h.capacity → ((k : ℕ) → Has flags k ↔ (k ≡ 0)) → Inv t h 0 0 h.first C flags
+  begins C flags same none =
       record {
         few = omega arith;
+        same = same;
         here = λ calls card e.
             record {
               rest = calls;
               is = begun t h ∙ e;
               same = λ k. (
-                (λ f. subst (λ (n : ℕ). Reach h.capacity n calls k) (one_flag 1025 f.held f.set) f.reach),
-                (λ r. record { held = 0; set = record { is = refl }; reach = r }),
+                (λ f. subst (λ (n : ℕ). Reach h.capacity n calls k) ((none f.held).0 f.set) f.reach),
+                (λ r. record { held = 0; set = (none 0).1 refl; reach = r }),
               );
             };
       }
 
   module _ (gone total at : ℕ) where
-    pub again : (flags new : List Bool) (call : TracedCall) → Inv t h gone total at flags → call_at t total at ≡ Ok call → Turned h.capacity call.flush call.length call.claim flags new → gone < h.count → Inv t h (gone + 1) (total + call.length) call.next new
+    pub again : (C D : ℕ) (flags new : List Bool) (call : TracedCall) → Inv t h gone total at C flags → call_at t total at ≡ Ok call → D ≡ C → Turned C call.flush call.length call.claim flags new → gone < h.count → Inv t h (gone + 1) (total + call.length) call.next D new
     unfolding Reach
-    again flags new call i q tu lt =
+    again C D flags new call i q d turns lt =
         let w = within t total at call q in
+        let tu = subst (λ (k : ℕ). Turned k call.flush call.length call.claim flags new) i.same turns in
         record {
           few = omega (arith, i.few, w.room);
+          same = d ∙ i.same;
           here = λ calls card e.
               let x = i.here calls card e in
               let n = next_call t h gone total at x.rest card x.is call q lt in
@@ -135,9 +135,9 @@ module _ (t : List ℕ) (h : Header) where
               };
         }
 
-    pub ends : (flags : List Bool) → Inv t h gone total at flags → h.count ≤ gone → OfTrace t h (λ calls card. Reached h.capacity calls flags)
+    pub ends : (C : ℕ) (flags : List Bool) → Inv t h gone total at C flags → h.count ≤ gone → OfTrace t h (λ calls card. Reached h.capacity calls flags)
     unfolding Reach
-    ends flags i z calls card e =
+    ends C flags i z calls card e =
         let x = i.here calls card e in
         let none = none_left t h gone total at x.rest card x.is z in
         record {
@@ -150,8 +150,8 @@ module _ (t : List ℕ) (h : Header) where
           );
         }
 
-    pub never : (e : Fault) (flags : List Bool) (P : List Told → List ℕ → Type 0) → Inv t h gone total at flags → call_at t total at ≡ Err e → gone < h.count → OfTrace t h P
-    never f flags P i q lt calls card e =
+    pub never : (e : Fault) (C : ℕ) (flags : List Bool) (P : List Told → List ℕ → Type 0) → Inv t h gone total at C flags → call_at t total at ≡ Err e → gone < h.count → OfTrace t h P
+    never f C flags P i q lt calls card e =
         let x = i.here calls card e in
         absurd (never_stops t h gone total at x.rest card x.is f q lt)
 
