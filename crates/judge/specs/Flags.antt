@@ -8,9 +8,7 @@ use Rattle.trace.specs.declared.Header.{Header}
 use Rattle.trace.specs.Calls.{Told}
 use Rattle.trace.specs.Trace.{trace, calls_from}
 use Rattle.trace.specs.Claims.{claimed}
-use Rattle.judge.specs.declared.Verdict.{Verdict}
-use Rattle.judge.specs.declared.Verdict.TheVariants.{Possible, Impossible}
-use Rattle.judge.specs.Table.{WriteStep, FlushStep, Reach, pieces, Goes}
+use Rattle.judge.specs.Table.{WriteStep, FlushStep, Reach, pieces}
 
 -- the flag of k is set
 pub record Has (flags : List Bool) (k : ℕ) : Type 0 where
@@ -105,8 +103,3 @@ answers flush n _ = 0
 abbrev pub Comparison : Option ℕ → List Told → List ℕ → Type 0
 Comparison (Some answered) calls card = (answered ≡ length (pieces calls)) × (card ≡ take (length card) (pieces calls))
 Comparison None calls card = card ≡ take (length card) (pieces calls) → ⊥
-
--- the verdict by the table
-abbrev pub Ruled : ℕ → Verdict → List Told → List ℕ → Type 0
-Ruled C Possible calls card = Goes C 0 calls (pieces calls) card
-Ruled C Impossible calls card = Goes C 0 calls (pieces calls) card → ⊥
