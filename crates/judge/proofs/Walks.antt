@@ -19,7 +19,6 @@ use Rattle.std.proofs.lemmas.Bool.Decides.{Decides-eqb}
 use Rattle.std.proofs.lemmas.Slice.Eq.{slice_eq-Decides}
 use Rattle.std.proofs.lemmas.List.{nil_from_length, take_rest}
 use Rattle.std.proofs.lemmas.Bool.{eqb-true, eqb-false}
-use Rattle.trace.specs.declared.Claim.{Claim}
 use Rattle.numbers.specs.declared.Fault.{Fault}
 use Rattle.trace.specs.declared.TracedCall.{TracedCall}
 use Rattle.trace.specs.declared.Header.{Header}
@@ -83,7 +82,7 @@ pub record Inv (t : List ℕ) (h : Header) (gone total at C : ℕ) (flags : List
   pub here : OfTrace t h (Here t h gone total at flags)
 
 -- a call's step in the trace, and by its numbers
-step_told : (t : List ℕ) (C h k : ℕ) (call : TracedCall) → call.start + call.length ≤ length t → StepOf C h call.flush call.length call.claim k ↔ Step C h (told t call) k
+step_told : (t : List ℕ) (C h k : ℕ) (call : TracedCall) → call.start + call.length ≤ length t → StepOf C h call k ↔ Step C h (told t call) k
 step_told t C h k call p = grind (arith, length-take, length-drop)
 
 module _ (t : List ℕ) (h : Header) where
@@ -104,11 +103,11 @@ module _ (t : List ℕ) (h : Header) where
       }
 
   module _ (gone total at : ℕ) where
-    pub again : (C D : ℕ) (flags new : List Bool) (call : TracedCall) → Inv t h gone total at C flags → call_at t total at ≡ Ok call → D ≡ C → Turned C call.flush call.length call.claim flags new → gone < h.count → Inv t h (gone + 1) (total + call.length) call.next D new
+    pub again : (C D : ℕ) (flags new : List Bool) (call : TracedCall) → Inv t h gone total at C flags → call_at t total at ≡ Ok call → D ≡ C → Turned C call flags new → gone < h.count → Inv t h (gone + 1) (total + call.length) call.next D new
     unfolding Reach
     again C D flags new call i q d turns lt =
         let w = within t total at call q in
-        let tu = subst (λ (k : ℕ). Turned k call.flush call.length call.claim flags new) i.same turns in
+        let tu = subst (λ (k : ℕ). Turned k call flags new) i.same turns in
         record {
           few = omega (arith, i.few, w.room);
           same = d ∙ i.same;
@@ -204,20 +203,20 @@ piece_agrees c p q m e = by (dec_le (length p) (length c))
 
 -- the piece of a call: how long it is, and where it stands in the trace
 module _ (t : List ℕ) (call : TracedCall) (part : call.start + call.length ≤ length t) where
-  pub piece_long : length (piece (told t call)) ≡ answers call.flush call.length call.claim
+  pub piece_long : length (piece (told t call)) ≡ answers call
   piece_long = grind (arith, length-take, length-drop)
 
-  pub piece_stands : (m : ℕ) → m ≤ answers call.flush call.length call.claim → take m (piece (told t call)) ≡ take m (drop call.start t)
+  pub piece_stands : (m : ℕ) → m ≤ answers call → take m (piece (told t call)) ≡ take m (drop call.start t)
   piece_stands m h = grind (arith, take-take, take-nil)
 
-answers_most : (b : Bool) (n : ℕ) (c : Claim) → answers b n c ≤ n
-answers_most b n c = grind arith
+answers_most : (call : TracedCall) → answers call ≤ call.length
+answers_most call = grind arith
 
 -- a call that is read, of whose claimed bytes the first m are compared with what is left of the card
 pub record Met (t : List ℕ) (h : Header) (gone total at : ℕ) (left : List ℕ) (answered : ℕ) (call : TracedCall) (taken m : ℕ) : Type 0 where
   pub walked : InvBytes t h gone total at left answered
   pub reads : call_at t total at ≡ Ok call
-  pub taken_is : taken ≡ answers call.flush call.length call.claim
+  pub taken_is : taken ≡ answers call
   pub most : m ≡ min taken (length left)
 
 module _ {t : List ℕ} {h : Header} {gone total at : ℕ} {left : List ℕ} {answered : ℕ} {call : TracedCall} {taken m : ℕ} (x : Met t h gone total at left answered call taken m) where
@@ -229,7 +228,7 @@ module _ {t : List ℕ} {h : Header} {gone total at : ℕ} {left : List ℕ} {an
   pub bytes_fit : Fits
   bytes_fit =
       let w = within t total at call x.reads in
-      let a = answers_most call.flush call.length call.claim in
+      let a = answers_most call in
       record { starts = omega (arith, w.part); total_fits = omega (arith, x.walked.few, w.room); answered_fits = omega (arith, x.walked.less, x.taken_is) }
 
   -- what the comparison of this call decides
@@ -238,7 +237,7 @@ module _ {t : List ℕ} {h : Header} {gone total at : ℕ} {left : List ℕ} {an
   decides calls card y n front =
       let w = within t total at call x.reads in
       let p = piece (told t call) in
-      let few : m ≤ answers call.flush call.length call.claim = omega (arith, x.most, x.taken_is) in
+      let few : m ≤ answers call = omega (arith, x.most, x.taken_is) in
       let short : m ≡ min (length p) (length left) = x.most ∙ ap (λ (k : ℕ). min k (length left)) (x.taken_is ∙ sym (piece_long t call w.part)) in
       let agree = piece_agrees left p (pieces n) m short in
       let stands : take m p ≡ take m (drop call.start t) = piece_stands t call w.part m few in

@@ -26,7 +26,7 @@ pub(crate) fn reach(trace: &[u8], header: &Header) -> Counts
 
 // How many bytes a call's claim answers for.
 fn answered_by(call: &TracedCall) -> usize
-    ensures { result ≡ answers call.now.flush call.now.length call.now.claim }
+    ensures { result ≡ answers call.now }
 {
     match call.claim {
         Claim::Ok(m) if !call.flush => m.min(call.length),
