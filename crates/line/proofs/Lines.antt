@@ -166,10 +166,6 @@ lent_script v w l = ap (λ s. s.now) l.script
 pub plain_is : (w : BufWriter) (x : BufWriter) (b : Said) (script : List ℕ) (own : ℕ) (call : World → Called) → tells b x ≡ reported (refusing script (world w) own call) → own ≡ 0 → Sound script (world w) → tells b x ≡ reported (call (world w))
 plain_is w x b script own call e z sound = called_is script (world w) own call (tells b x) e z sound refl refl
 
--- a first step that began with no device call made
-pub begun_step : (v : BufWriter) (t : Told) (first : World → Called) → t ≡ reported (first (counting v)) → v.calls ≡ 0 → t ≡ reported (first (world v))
-begun_step v t first e z = e ∙ ap (λ (k : ℕ). reported (first (world_after v.state v.storage.now v.medium.now k))) z
-
 -- the parts of a slice are not too long
 pub short : (s : List ℕ) → length s ≤ bytes_most → length_refusal (length s) ≡ 0
 short s h = length_within (length s) h

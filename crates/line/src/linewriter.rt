@@ -12,7 +12,6 @@ use crate::plain::Plain;
 use card::{Failure, bytes, device, limits};
 use flushing::{BufWriter, State};
 use writer::bufwriter;
-use writer::way::Way;
 
 // Whether the last held byte is a newline.
 fn ends_line(w: &BufWriter<'_, '_>) -> bool
@@ -116,13 +115,12 @@ fn flush_then<T: Plain>(w: &mut BufWriter<'_, '_>, slice: &[u8]) -> Result<T, Fa
 // Nothing is held: the lines go by the default device write.
 fn lines_direct(w: &mut BufWriter<'_, '_>, slice: &[u8], e: usize) -> Result<(), Failure>
     requires sound { Sound w.old.script.now (world w.old) }
-    requires begun { w.old.calls ≡ 0 }
     requires short { length slice.now ≤ bytes_most }
     requires within { e ≤ length slice.now }
     ensures lent { Lent w.old w.new }
     ensures told { tells (said_done result) w.new ≡ reported (and_then (device_write_all w.old.script.now (world w.old) (take e slice.now)) (λ v. write_all w.old.script.now v (drop e slice.now))) }
 {
-    <() as Way>::direct(w, &slice[..e])?;
+    bufwriter::device_write_all(w, &slice[..e])?;
     let made = w.calls;
     let answer = bufwriter::write_all(w, &slice[e..]);
     w.calls += made;

@@ -9,9 +9,9 @@ ghost use Rattle.writer.specs.Writer.{write, write_all};
 use card::Failure;
 use flushing::BufWriter;
 use writer::bufwriter;
-use writer::way::Way;
+use writer::way::Success;
 
-pub(crate) trait Plain: Way {
+pub(crate) trait Plain: Success {
     // What it does where no refusal meets it.
     ghost call: { List ℕ → World → List ℕ → Called };
 

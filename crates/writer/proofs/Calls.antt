@@ -28,10 +28,11 @@ use Rattle.flushing.specs.World.{Answered}
 use Rattle.flushing.specs.declared.Sent.{Sent}
 use Rattle.flushing.specs.declared.Stop.{Stop}
 use Rattle.flushing.specs.declared.Stop.TheVariants.{Zero, Failed}
-use Rattle.flushing.specs.World.{World, Called, Told, Lent, world, counting, tells, capacity, Fit, Sound, world_of, world_after, told, reported, refusing, nothing, spare, is_ok, and_then}
+use Rattle.flushing.specs.World.{World, Called, Told, Lent, world, counting, left, tells, capacity, Fit, Sound, world_of, world_after, told, reported, refusing, nothing, spare, is_ok, and_then}
 use Rattle.flushing.specs.Send.{Outcome, whole_failure, whole_said, write_said, flush_reply_said, send_from}
 use Rattle.flushing.specs.Flush.{flush_buf, flush_buf_call}
 use Rattle.flushing.proofs.Sends.{later, within, send_later}
+use Rattle.flushing.proofs.Laters.{Counting, after_is}
 use Rattle.flushing.proofs.Flushes.{keeps, fit_after}
 use Rattle.flushing.proofs.Cases.{flush_ok_done}
 use Rattle.flushing.proofs.Thens.{then_failed, told_called}
@@ -53,6 +54,10 @@ device_room left s me used out k e pe pk h =
 pub device_all_room : (left s me : List ℕ) (used out : ℕ) (f : Sent) → f ≡ send_from left (length s) (length me - out) 0 used 0 → out ≤ length me → out + f.sent ≤ length me
 device_all_room left s me used out f pf h = rw pf (omega (arith, (within left (length s) (length me - out) 0 used 0).fits))
 
+-- whatever the state, its bytes end within the medium, or it takes none
+pub device_all_most : (left s me : List ℕ) (used out : ℕ) (f : Sent) → f ≡ send_from left (length s) (length me - out) 0 used 0 → f.sent ≤ length me - out
+device_all_most left s me used out f pf = rw pf (omega (arith, (within left (length s) (length me - out) 0 used 0).fits))
+
 pub device_all_few : (script s me : List ℕ) (used out writes : ℕ) (f : Sent) → f ≡ send_from (drop used script) (length s) (length me - out) 0 used 0 → used ≤ length script → writes ≤ used → writes + f.writes ≤ length script + 1
 device_all_few script s me used out writes f pf h few =
     let k = within (drop used script) (length s) (length me - out) 0 used 0 in
@@ -68,6 +73,12 @@ device_all_is script st me s state writes f a y pf py pa =
     ∙ send_later (drop state.used script) (length s) (length me - state.out) 0 state.used 0 writes
     ∙ ap (λ (g : Sent). later writes g) (sym pf) in
     rw run (cc (add-zero (writes + f.writes)))
+
+-- and from none
+pub device_all_first : (script st me s : List ℕ) (state : State) (f : Sent) (a : Said) (y : List ℕ) → f ≡ send_from (drop state.used script) (length s) (length me - state.out) 0 state.used 0 → y ≡ put me state.out s f.sent → a ≡ whole_said f.outcome → record { answer = a; calls = f.writes; held = state.held; out = state.out + f.sent; used = f.used; storage = st; medium = y } ≡ reported (device_write_all script (world_of state st me) s)
+device_all_first script st me s state f a y pf py pa =
+    let none : f.writes ≡ 0 + f.writes = omega arith in
+    rw none (device_all_is script st me s state 0 f a y pf py pa)
 
 -- what the device said no with says what it says; and so does a run that was stopped
 pub reply_says : (e : DeviceError) (r : Reply) → r ≡ Err e → failed (failure_by e) ≡ write_said r
@@ -131,6 +142,21 @@ fit_on v w u l h = rw l.script h
 
 pub sound_lent : (v w : BufWriter) (u : World) → Lent v w → Sound v.script.now u → Sound w.script.now u
 sound_lent v w u l h = rw l.script h
+
+-- a step that counted from none, x the writer after it, whose device calls are added to those before it
+pub counted_on : (w x : BufWriter) (a : Said) (step : World → Called) → Counting step → tells a x ≡ reported (step (world w)) → record { answer = a; calls = x.calls + w.calls; held = x.state.held; out = x.state.out; used = x.state.used; storage = x.storage.now; medium = x.medium.now } ≡ reported (step (counting w))
+counted_on w x a step later e =
+    let sum : x.calls + w.calls ≡ w.calls + x.calls = omega arith in
+    rw sum (after_is w.script.now w.storage.now w.medium.now w.state step (left a x) x.storage.now x.medium.now w.calls later e)
+
+-- the default device write makes few of them
+pub direct_few : (w x : BufWriter) (s : List ℕ) (a : Said) → Fit w.script.now (counting w) → tells a x ≡ reported (device_write_all w.script.now (world w) s) → x.calls + w.calls ≤ length w.script.now + 1
+unfolding device_write_all
+direct_few w x s a fit e =
+    let k = within (drop w.state.used w.script.now) (length s) (length w.medium.now - w.state.out) 0 w.state.used 0 in
+    let l : length (drop w.state.used w.script.now) ≡ length w.script.now - w.state.used = length-drop w.state.used w.script.now in
+    let calls = ap (λ (t : Told). t.calls) e in
+    omega (arith, k.count, k.end, fit.used, fit.few, calls)
 
 -- ---- the cold road
 

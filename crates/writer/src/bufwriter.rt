@@ -4,11 +4,42 @@ ghost use Rattle.laws.specs.Put.{put};
 ghost use Rattle.card.specs.Limits.{length_refusal};
 ghost use Rattle.card.specs.Answers.{said_count, said_done};
 ghost use Rattle.flushing.specs.World.{Fit, Sound, Lent, world, counting, tells, reported, refusing, fresh};
-ghost use Rattle.writer.specs.Writer.{placed, readied, cold, written, write_call, write_all_call, flush_call};
+ghost use Rattle.flushing.specs.Send.{whole_failure};
+ghost use Rattle.writer.specs.Writer.{device_write_all, placed, readied, cold, written, write_call, write_all_call, flush_call};
 
 use crate::way::Way;
 use card::{Failure, bytes, device, limits};
-use flushing::{BufWriter, State};
+use flushing::{BufWriter, State, Stop, send};
+
+// ---- the default device write
+
+// Why it is not done.
+fn whole_failure(stop: Stop) -> Failure
+    ensures { result ≡ whole_failure stop }
+{
+    match stop {
+        Stop::Zero => Failure::Whole,
+        Stop::Failed(code) => Failure::Error(code),
+    }
+}
+
+// Past the buffer, whatever it holds: the slice is offered to the device until all of it is taken.
+// It refuses nothing.
+pub fn device_write_all(w: &mut BufWriter<'_, '_>, slice: &[u8]) -> Result<(), Failure>
+    ensures lent { Lent w.old w.new }
+    ensures told { tells (said_done result) w.new ≡ reported (device_write_all w.old.script.now (world w.old) slice.now) }
+{
+    let State { held, out, used } = w.state;
+    let script = w.script;
+    let run = send::send_all(slice, script, used, w.medium, out);
+    w.state = State {
+        held,
+        out: out + run.sent,
+        used: run.used,
+    };
+    w.calls = run.writes;
+    run.outcome.map_err(whole_failure)
+}
 
 // ---- a slice that does not fit with room to spare
 

@@ -14,7 +14,7 @@ returns-in_err-flush_buf-clause-told g c =
     let f = c.in_err-flush_buf.field-0.0 in
     let v = c.args.w.now in
     let e = flush_step v c.flush_buf.new.self (failed f) c.in_err-flush_buf.ensures.told c.requires.sound in
-    rw (p.1, p.2, g.met.T.Way.says_failed f) (step_stopped v c.flush_buf.new.self (failed f) (λ u. flush_buf v.script.now u) e c.requires.sound (flush_leaves v c.flush_buf.new.self (failed f) c.in_err-flush_buf.ensures.told c.requires.sound) _ (failed_not_ok f))
+    rw (p.1, p.2, g.met.T.Success.says_failed f) (step_stopped v c.flush_buf.new.self (failed f) (λ u. flush_buf v.script.now u) e c.requires.sound (flush_leaves v c.flush_buf.new.self (failed f) c.in_err-flush_buf.ensures.told c.requires.sound) _ (failed_not_ok f))
 
 pub overflow_add-w : goal.overflow_add-w
 overflow_add-w g c =

@@ -14,7 +14,7 @@ returns-in_err-make_room-clause-told g c =
     let p = err_from_is_err_and c.from_residual.result c.from_residual.ensures.1 in
     let f = c.in_err-make_room.field-0.0 in
     let w = c.args.w.now in
-    rw (p.1, p.2, g.met.T.Way.says_failed f) (then_stopped _ _ _ _ _ _ _ (room_made _ _ _ w.state _ c.requires.sound (left (failed f) c.make_room.new.w) _ _ c.in_err-make_room.ensures.told) (failed_not_ok f))
+    rw (p.1, p.2, g.met.T.Success.says_failed f) (then_stopped _ _ _ _ _ _ _ (room_made _ _ _ w.state _ c.requires.sound (left (failed f) c.make_room.new.w) _ _ c.in_err-make_room.ensures.told) (failed_not_ok f))
 
 pub place-requires-clause-fit : goal.place-requires-clause-fit
 place-requires-clause-fit g c = fit_on _ _ _ c.make_room.ensures.lent (room_ready _ _ _ c.args.w.now.state _ c.requires.sound (left done c.make_room.new.w) _ _ c.in_ok-make_room.ensures.told refl).0
