@@ -35,3 +35,5 @@ said_error code = simp append-nil
 pub said_refused : (number : ℕ) → answer_of (Refused number) ≡ ascii "refused " ++ decimal_of number
 unfolding answer_of said_of word_of values_of
 said_refused number = simp append-nil
+
+pub ruleset saids = (said_ok, said_done, said_interrupted, said_zero, said_whole, said_error, said_refused)
