@@ -10,16 +10,10 @@ ghost use Rattle.session.specs.Reading.{offset_of, stepped, read_step, reader_st
 ghost use Rattle.session.specs.Steps.{Shows, Bounded, Runs, Steps, Lines};
 
 use card::Answer;
-use form::{Call, CallRead, calls};
+use card::limits::BYTES_MOST;
+use form::{Call, CallRead, Header, calls};
 use reader::{Answered, State};
-use text::{Name, lines};
-
-// The state that a call leaves, and the place after its line.
-#[derive(Clone, Copy)]
-pub struct Moved {
-    pub state: State,
-    pub at: usize,
-}
+use text::{Name, Page};
 
 // How many bytes an answer shows: its count after ok, none for every other answer.
 fn shown(answer: Answer) -> usize
@@ -36,23 +30,15 @@ fn shown(answer: Answer) -> usize
     }
 }
 
-// The line of a call, with what its answer shows of the bytes.
-fn line(output: &mut [u8], at: usize, name: Name, a: Answered, bytes: &[u8]) -> Moved
-    ensures { (x : List ℕ) → Steps (stepped name (called a x) bytes.now) output.old at output.new result.at (world x result.state) }
+// The line of a call, with what its answer shows of the bytes; the state that it leaves.
+fn line(page: &mut Page<'_>, name: Name, a: Answered, bytes: &[u8]) -> State
+    ensures { (x : List ℕ) → Steps (stepped name (called a x) bytes.now) page.old page.new (world x result) }
 {
     let answer = a.answer;
     let state = a.state;
-    let next = lines::reader(
-        output,
-        at,
-        name,
-        answer,
-        a.calls,
-        state.pos,
-        state.filled,
-        crate::part(bytes, 0, shown(answer)),
-    );
-    Moved { state, at: next }
+    let bytes = crate::part(bytes, 0, shown(answer));
+    page.reader_line(name, answer, a.calls, state.pos, state.filled, bytes);
+    state
 }
 
 // `read` into a destination.
@@ -62,13 +48,12 @@ fn read_into(
     stock: &[u8],
     state: State,
     destination: &mut [u8],
-    output: &mut [u8],
-    at: usize,
-) -> Moved
-    ensures { Steps (read_step (Reader.read script.now stock.now destination.old (world storage.old state))) output.old at output.new result.at (world storage.new result.state) }
+    page: &mut Page<'_>,
+) -> State
+    ensures { Steps (read_step (Reader.read script.now stock.now destination.old (world storage.old state))) page.old page.new (world storage.new result) }
 {
     let a = reader::read(storage, script, stock, state, destination);
-    line(output, at, Name::Read, a, destination)
+    line(page, Name::Read, a, destination)
 }
 
 // `read` n, into a destination of n zeros.
@@ -78,22 +63,13 @@ fn read(
     stock: &[u8],
     state: State,
     n: usize,
-    output: &mut [u8],
-    at: usize,
-) -> Moved
+    page: &mut Page<'_>,
+) -> State
     requires { n ≤ bytes_most }
-    ensures { Steps (read_step (Reader.read script.now stock.now (replicate n 0) (world storage.old state))) output.old at output.new result.at (world storage.new result.state) }
+    ensures { Steps (read_step (Reader.read script.now stock.now (replicate n 0) (world storage.old state))) page.old page.new (world storage.new result) }
 {
-    let mut destination = [0u8; 16384];
-    read_into(
-        storage,
-        script,
-        stock,
-        state,
-        &mut destination[..n],
-        output,
-        at,
-    )
+    let mut destination = [0u8; BYTES_MOST];
+    read_into(storage, script, stock, state, &mut destination[..n], page)
 }
 
 // The offset of a seek.
@@ -102,13 +78,10 @@ fn offset(back: bool, size: usize) -> i64
     ensures { result ≡ offset_of back size }
 {
     let magnitude = size as i64;
-    if back {
-        return 0 - magnitude;
-    }
-    magnitude
+    if back { -magnitude } else { magnitude }
 }
 
-// One call of the session, and its line.
+// One call of the session, and its line; the state that it leaves.
 fn step(
     session: &[u8],
     call: Call,
@@ -116,80 +89,54 @@ fn step(
     storage: &mut [u8],
     script: &[u32],
     stock: &[u8],
-    output: &mut [u8],
-    at: usize,
-) -> Moved
+    page: &mut Page<'_>,
+) -> State
     requires { Runs (asked session.now call) }
-    ensures { Steps (reader_step script.now stock.now (world storage.old state) (asked session.now call)) output.old at output.new result.at (world storage.new result.state) }
+    ensures { Steps (reader_step script.now stock.now (world storage.old state) (asked session.now call)) page.old page.new (world storage.new result) }
 {
     match call {
-        Call::Read(n) => read(storage, script, stock, state, n, output, at),
+        Call::Read(n) => read(storage, script, stock, state, n, page),
         Call::Peek(n) => {
             let a = reader::peek(storage, script, stock, state, n);
-            line(
-                output,
-                at,
-                Name::Peek,
-                a,
-                reader::peeked(storage, a.state, n),
-            )
+            line(page, Name::Peek, a, reader::peeked(storage, a.state, n))
         }
         Call::Consume(n) => {
             let a = reader::consume(storage, script, stock, state, n);
-            line(output, at, Name::Consume, a, b"")
+            line(page, Name::Consume, a, b"")
         }
         Call::Seek(back, size) => {
             let a = reader::seek_relative(storage, script, stock, state, offset(back, size));
-            line(output, at, Name::SeekRelative, a, b"")
+            line(page, Name::SeekRelative, a, b"")
         }
         Call::Fill => {
             let a = reader::fill_buf(storage, script, stock, state);
-            line(
-                output,
-                at,
-                Name::Fill,
-                a,
-                reader::buffered(storage, a.state),
-            )
+            line(page, Name::Fill, a, reader::buffered(storage, a.state))
         }
-        Call::Write(_, _) => Moved { state, at },
-        Call::WriteAll(_, _) => Moved { state, at },
-        Call::Flush => Moved { state, at },
+        Call::Write(_, _) | Call::WriteAll(_, _) | Call::Flush => state,
     }
 }
 
 // The calls of a session, and its end line.
 pub(crate) fn run(
     session: &[u8],
-    count: usize,
-    first: usize,
+    header: Header,
     script: &[u32],
     stock: &[u8],
     storage: &mut [u8],
-    output: &mut [u8],
-    at: usize,
-) -> usize
-    ensures { Lines session.now 2 count first (λ w call. reader_step script.now stock.now w call) reader_ends (world storage.old new) output.old at output.new result }
+    page: &mut Page<'_>,
+)
+    ensures { Lines session.now 2 header.count header.first (λ w call. reader_step script.now stock.now w call) reader_ends (world storage.old new) page.old page.new }
 {
     let mut state = reader::new();
-    let mut left = count;
-    let mut place = first;
-    let mut next = at;
-    while 0 < left {
-        let read = calls::read_call(session, 2, place);
-        match read {
+    let mut place = header.first;
+    for _ in 0..header.count {
+        match calls::read_call(session, 2, place) {
             CallRead::Found(call, after) => {
-                let s = step(session, call, state, storage, script, stock, output, next);
-                let left_behind = s.state;
-                state = left_behind;
-                next = s.at;
+                state = step(session, call, state, storage, script, stock, page);
                 place = after;
-                left -= 1;
             }
-            CallRead::Fault(_) => {
-                return next;
-            }
+            CallRead::Fault(_) => return,
         }
     }
-    lines::reader_end(output, next, reader::buffered(storage, state), state.taken)
+    page.reader_end(reader::buffered(storage, state), state.taken);
 }

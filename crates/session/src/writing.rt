@@ -2,24 +2,17 @@
 ghost use Rattle.std.specs.Prelude.{◌≡◌};
 ghost use Rattle.card.specs.Answers.{said};
 ghost use Rattle.flushing.specs.World.{world_of, told, new};
-ghost use Rattle.text.specs.Printed.{printed};
+ghost use Rattle.text.specs.Printed.{written};
 ghost use Rattle.form.specs.Calls.{asked};
 ghost use Rattle.text.specs.Lines.{writer_line};
 ghost use Rattle.session.specs.Steps.{Steps, Lines};
 ghost use Rattle.session.specs.Writing.{told_write, told_write_all, writer_step, writer_ends};
 
 use flushing::{Answered, State};
-use form::{Call, CallRead, calls};
+use form::{Call, CallRead, Header, calls};
 use line::linewriter;
-use text::{Name, lines};
+use text::{Name, Page};
 use writer::bufwriter;
-
-// The state that a call leaves, and the place after its line.
-#[derive(Clone, Copy)]
-pub struct Stepped {
-    pub state: State,
-    pub at: usize,
-}
 
 fn write(
     kind: usize,
@@ -53,17 +46,16 @@ fn write_all(
     bufwriter::write_all(state, storage, script, medium, slice)
 }
 
-// The line of a call.
-fn line(output: &mut [u8], at: usize, name: Name, a: Answered) -> Stepped
-    ensures { (record { output = output.new; at = result.at } ≡ printed output.old at (writer_line name (said a.answer) a.calls a.state.held a.state.out)) × (result.state ≡ a.state) }
+// The line of a call; the state that it leaves.
+fn line(page: &mut Page<'_>, name: Name, a: Answered) -> State
+    ensures { (page.new ≡ written page.old (writer_line name (said a.answer) a.calls a.state.held a.state.out)) × (result ≡ a.state) }
 {
-    let answer = a.answer;
     let state = a.state;
-    let next = lines::writer(output, at, name, answer, a.calls, state.held, state.out);
-    Stepped { state, at: next }
+    page.writer_line(name, a.answer, a.calls, state.held, state.out);
+    state
 }
 
-// One call of the session, and its line.
+// One call of the session, and its line; the state that it leaves.
 fn step(
     session: &[u8],
     kind: usize,
@@ -72,82 +64,52 @@ fn step(
     storage: &mut [u8],
     script: &[u32],
     medium: &mut [u8],
-    output: &mut [u8],
-    at: usize,
-) -> Stepped
-    ensures { Steps (writer_step kind script.now (world_of state storage.old medium.old) (asked session.now call)) output.old at output.new result.at (world_of result.state storage.new medium.new) }
+    page: &mut Page<'_>,
+) -> State
+    ensures { Steps (writer_step kind script.now (world_of state storage.old medium.old) (asked session.now call)) page.old page.new (world_of result storage.new medium.new) }
 {
     match call {
         Call::Write(start, n) => {
-            let a = write(
-                kind,
-                state,
-                storage,
-                script,
-                medium,
-                crate::part(session, start, n),
-            );
-            line(output, at, Name::Write, a)
+            let slice = crate::part(session, start, n);
+            let a = write(kind, state, storage, script, medium, slice);
+            line(page, Name::Write, a)
         }
         Call::WriteAll(start, n) => {
-            let a = write_all(
-                kind,
-                state,
-                storage,
-                script,
-                medium,
-                crate::part(session, start, n),
-            );
-            line(output, at, Name::WriteAll, a)
+            let slice = crate::part(session, start, n);
+            let a = write_all(kind, state, storage, script, medium, slice);
+            line(page, Name::WriteAll, a)
         }
         Call::Flush => {
             let a = bufwriter::flush(state, storage, script, medium);
-            line(output, at, Name::Flush, a)
+            line(page, Name::Flush, a)
         }
-        Call::Read(_) => Stepped { state, at },
-        Call::Peek(_) => Stepped { state, at },
-        Call::Consume(_) => Stepped { state, at },
-        Call::Seek(_, _) => Stepped { state, at },
-        Call::Fill => Stepped { state, at },
+        Call::Read(_) | Call::Peek(_) | Call::Consume(_) | Call::Seek(_, _) | Call::Fill => state,
     }
 }
 
 // The calls of a session, and its end line.
 pub(crate) fn run(
     session: &[u8],
-    kind: usize,
-    count: usize,
-    first: usize,
+    header: Header,
     script: &[u32],
     storage: &mut [u8],
     medium: &mut [u8],
-    output: &mut [u8],
-    at: usize,
-) -> usize
-    ensures { Lines session.now kind count first (λ w call. writer_step kind script.now w call) writer_ends (new storage.old medium.old) output.old at output.new result }
+    page: &mut Page<'_>,
+)
+    ensures { Lines session.now header.kind header.count header.first (λ w call. writer_step header.kind script.now w call) writer_ends (new storage.old medium.old) page.old page.new }
 {
+    let kind = header.kind;
     let mut state = bufwriter::new();
-    let mut left = count;
-    let mut place = first;
-    let mut next = at;
-    while 0 < left {
-        let read = calls::read_call(session, kind, place);
-        match read {
+    let mut place = header.first;
+    for _ in 0..header.count {
+        match calls::read_call(session, kind, place) {
             CallRead::Found(call, after) => {
-                let s = step(
-                    session, kind, call, state, storage, script, medium, output, next,
-                );
-                let left_behind = s.state;
-                state = left_behind;
-                next = s.at;
+                state = step(session, kind, call, state, storage, script, medium, page);
                 place = after;
-                left -= 1;
             }
-            CallRead::Fault(_) => {
-                return next;
-            }
+            CallRead::Fault(_) => return,
         }
     }
     let held = bufwriter::buffer(state, storage);
-    lines::writer_end(output, next, held, crate::part(medium, 0, state.out))
+    page.writer_end(held, crate::part(medium, 0, state.out));
 }

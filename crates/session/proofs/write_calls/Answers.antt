@@ -10,4 +10,4 @@ pub slice_bounds-run-end : goal.slice_bounds-run-end
 slice_bounds-run-end c = zeros_long _ 1024 (capacity_in _ _ _ c.requires)
 
 pub returns : goal.returns
-returns c = write_lines _ _ _ c.requires _ _ _ _ c.run.ensures
+returns c = write_lines _ _ _ c.requires _ _ c.run.ensures

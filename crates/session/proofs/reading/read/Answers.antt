@@ -7,4 +7,4 @@ pub slice_bounds-read_into-end : goal.slice_bounds-read_into-end
 slice_bounds-read_into-end c = zeros_long _ 16384 c.requires
 
 pub returns : goal.returns
-returns c = ap_steps _ _ _ _ _ _ _ _ (zeros c.args.n 16384 c.requires) c.read_into.ensures
+returns c = ap_steps _ _ _ _ _ _ _ (zeros c.args.n 16384 c.requires) c.read_into.ensures
