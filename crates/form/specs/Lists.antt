@@ -1,8 +1,8 @@
 -- So many of one thing, read one after the other.
 -- Assumes nothing.
-use Rattle.std.specs.Prelude.{ℕ, List, ◌∷◌}
-use Rattle.form.specs.declared.End.{End}
-use Rattle.form.specs.declared.End.TheVariants.{At, Fault}
+use Rattle.std.specs.Prelude.{ℕ, List, ◌∷◌, Result, Ok}
+use Rattle.numbers.specs.declared.Fault.{Fault}
+use Rattle.numbers.specs.Number.{fault_at}
 
 -- What was read, with the place after it; or the place of the first fault
 pub data Listed (A : Type 0) : Type 0 where
@@ -20,6 +20,6 @@ after_all (listed all next) fault good = good all next
 after_all (stopped place) fault good = fault place
 
 -- the same without what was read
-abbrev pub skipped : {A : Type 0} → Listed A → End
-skipped (listed all next) = At next
-skipped (stopped place) = Fault place
+abbrev pub skipped : {A : Type 0} → Listed A → Result ℕ Fault
+skipped (listed all next) = Ok next
+skipped (stopped place) = fault_at place

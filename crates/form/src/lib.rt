@@ -1,16 +1,15 @@
 // The form of a session, the bench program's input. A session is read left to right, with the
-// place of its first fault, and without memory for its calls: `whole::check` reads it all,
+// place of its first fault (refusal 6), and without memory for its calls: `whole::check` reads it all,
 // `replies::read_replies` hands out its replies, `calls::read_call` reads one call again.
 #![tactic(auto)]
 
 pub mod calls;
-mod parts;
 pub mod replies;
 pub mod whole;
 
 // One call of a session. The bytes of a write are the session's, from a start on, so many as the
 // length says: `Write(start, length)`. A seek's first value is true for back, false for on.
-#[derive(Clone, Copy)]
+#[derive(Clone, Copy, Debug, PartialEq, Eq)]
 pub enum Call {
     Write(usize, usize),
     WriteAll(usize, usize),
@@ -22,25 +21,11 @@ pub enum Call {
     Fill,
 }
 
-// A call with the place after it, or the place of a fault.
-#[derive(Clone, Copy)]
-pub enum CallRead {
-    Found(Call, usize),
-    Fault(usize),
-}
-
-// The place after so many replies or calls, or the place of the first fault among them.
-#[derive(Clone, Copy)]
-pub enum End {
-    At(usize),
-    Fault(usize),
-}
-
 // What a session holds beside its lists: the kind (0 writer, 1 line writer, 2 reader) and the
 // capacity; how many replies there are and where the first stands; where the stock's bytes stand
 // and how many they are (none, after the replies, for a writer); how many calls there are and
 // where the first stands.
-#[derive(Clone, Copy)]
+#[derive(Clone, Copy, Debug, PartialEq, Eq)]
 pub struct Header {
     pub kind: usize,
     pub capacity: usize,
@@ -52,11 +37,10 @@ pub struct Header {
     pub first: usize,
 }
 
-// A session without a fault; the place where the trace of kind 3 starts, of which nothing is
-// checked here; or the place of the first fault (refusal 6).
-#[derive(Clone, Copy)]
+// A session without a fault: its header; or, of kind 3, the place where the trace starts, of which
+// nothing is checked here.
+#[derive(Clone, Copy, Debug, PartialEq, Eq)]
 pub enum Checked {
     Session(Header),
     Traced(usize),
-    Fault(usize),
 }

@@ -1,28 +1,43 @@
 -- `form::calls::read_reader` meets its contract. Assumes nothing.
-use borrow.Author.Tests.{eq-eqb, ne_eqb}
-use Rattle.form.specs.Calls.{reader_call}
+use mathlib.Core.Path.{sym, ◌∙◌}
+use native.Mathlib.Omega.{arith}
+use borrow.Author.Tests.{ne_eqb}
+use Rattle.numbers.proofs.Most.{handed_on}
+use Rattle.form.specs.Calls.{read_at, peek_at, consume_at, reader_call}
 use Rattle.form.proofs.calls.read_reader.Goals as goal
 
-pub returns-then-number-eq3 : goal.returns-then-number-eq3
-unfolding reader_call
-returns-then-number-eq3 c = simp (eq-eqb _ _ c.if-number-eq3.true) c.read_read.ensures
+pub returns-in_err-n-in-3 : goal.returns-in_err-n-in-3
+unfolding reader_call read_at
+returns-in_err-n-in-3 c = rw (c.in-3.is, sym c.read_most.ensures ∙ c.in_err-n-in-3.was) (handed_on _ _ c.from_residual.ensures.1)
 
-pub returns-then-number-eq4 : goal.returns-then-number-eq4
-unfolding reader_call
-returns-then-number-eq4 c = simp (ne_eqb _ _ c.if-number-eq3.false, eq-eqb _ _ c.if-number-eq4.true) c.read_peek.ensures
+pub returns-in_ok-n-in-3 : goal.returns-in_ok-n-in-3
+unfolding reader_call read_at
+returns-in_ok-n-in-3 c = rw (c.in-3.is, sym c.read_most.ensures ∙ c.in_ok-n-in-3.was)
 
-pub returns-then-number-eq5 : goal.returns-then-number-eq5
-unfolding reader_call
-returns-then-number-eq5 c = simp (ne_eqb _ _ c.if-number-eq3.false, ne_eqb _ _ c.if-number-eq4.false, eq-eqb _ _ c.if-number-eq5.true) c.read_consume.ensures
+pub returns-in_err-n-in-4 : goal.returns-in_err-n-in-4
+unfolding reader_call peek_at
+returns-in_err-n-in-4 c = rw (c.in-4.is, sym c.read_most-in-4.ensures ∙ c.in_err-n-in-4.was) (handed_on _ _ c.from_residual-in_err-n-in-4.ensures.1)
 
-pub returns-then-number-eq6 : goal.returns-then-number-eq6
-unfolding reader_call
-returns-then-number-eq6 c = simp (ne_eqb _ _ c.if-number-eq3.false, ne_eqb _ _ c.if-number-eq4.false, ne_eqb _ _ c.if-number-eq5.false, eq-eqb _ _ c.if-number-eq6.true) c.read_seek.ensures
+pub returns-in_ok-n-in-4 : goal.returns-in_ok-n-in-4
+unfolding reader_call peek_at
+returns-in_ok-n-in-4 c = rw (c.in-4.is, sym c.read_most-in-4.ensures ∙ c.in_ok-n-in-4.was)
 
-pub returns-then-number-eq7 : goal.returns-then-number-eq7
-unfolding reader_call
-returns-then-number-eq7 c = simp (ne_eqb _ _ c.if-number-eq3.false, ne_eqb _ _ c.if-number-eq4.false, ne_eqb _ _ c.if-number-eq5.false, ne_eqb _ _ c.if-number-eq6.false, eq-eqb _ _ c.if-number-eq7.true)
+pub returns-in_err-n-in-5 : goal.returns-in_err-n-in-5
+unfolding reader_call consume_at
+returns-in_err-n-in-5 c = rw (c.in-5.is, sym c.read_most-in-5.ensures ∙ c.in_err-n-in-5.was) (handed_on _ _ c.from_residual-in_err-n-in-5.ensures.1)
 
-pub returns : goal.returns
+pub returns-in_ok-n-in-5 : goal.returns-in_ok-n-in-5
+unfolding reader_call consume_at
+returns-in_ok-n-in-5 c = rw (c.in-5.is, sym c.read_most-in-5.ensures ∙ c.in_ok-n-in-5.was)
+
+pub returns-in-6 : goal.returns-in-6
 unfolding reader_call
-returns c = simp (ne_eqb _ _ c.if-number-eq3.false, ne_eqb _ _ c.if-number-eq4.false, ne_eqb _ _ c.if-number-eq5.false, ne_eqb _ _ c.if-number-eq6.false, ne_eqb _ _ c.if-number-eq7.false)
+returns-in-6 c = rw (c.in-6.is) c.read_seek.ensures
+
+pub returns-in-7 : goal.returns-in-7
+unfolding reader_call
+returns-in-7 c = rw (c.in-7.is)
+
+pub returns-in_default : goal.returns-in_default
+unfolding reader_call
+returns-in_default c = rw (ne_eqb c.args.number 3 (λ e. omega arith), ne_eqb c.args.number 4 (λ e. omega arith), ne_eqb c.args.number 5 (λ e. omega arith), ne_eqb c.args.number 6 (λ e. omega arith), ne_eqb c.args.number 7 (λ e. omega arith))

@@ -3,8 +3,5 @@ use Rattle.form.proofs.Walks.{Turn}
 use Rattle.form.specs.Calls.{calls_from}
 use Rattle.form.proofs.calls.skip.Given as goal
 
-abbrev pub invariant-loop-left : goal.invariant-loop-left
-invariant-loop-left l = Turn (calls_from l.session l.kind) l.count l.first l.left l.at
-
-abbrev pub decreases-loop-left : goal.decreases-loop-left
-decreases-loop-left l = l.left
+abbrev pub invariant-loop : goal.invariant-loop
+invariant-loop l = Turn (calls_from l.session l.kind) l.count l.first l.counter l.at

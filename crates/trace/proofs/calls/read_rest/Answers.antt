@@ -1,10 +1,13 @@
 -- `trace::calls::read_rest` meets its contract. Assumes nothing.
 use mathlib.Core.Path.{sym, ◌∙◌}
-use Rattle.trace.proofs.Steps.{rest_claim, rest_fault}
+use Rattle.numbers.proofs.Most.{handed_on}
+use Rattle.trace.specs.Calls.{traced}
 use Rattle.trace.proofs.calls.read_rest.Goals as goal
 
-pub returns-in-Claimed : goal.returns-in-Claimed
-returns-in-Claimed c = rest_claim _ _ _ _ _ _ _ (sym c.read_claim-found.ensures ∙ c.in-Claimed.is)
+pub returns-in_err-claim : goal.returns-in_err-claim
+unfolding traced
+returns-in_err-claim c = rw (sym c.read_claim.ensures ∙ c.in_err-claim.was) (handed_on _ _ c.from_residual.ensures.1)
 
-pub returns-in-Fault : goal.returns-in-Fault
-returns-in-Fault c = rest_fault _ _ _ _ _ _ (sym c.read_claim-found.ensures ∙ c.in-Fault.is)
+pub returns : goal.returns
+unfolding traced
+returns c = rw (sym c.read_claim.ensures ∙ c.in_ok-claim.was)

@@ -1,13 +1,17 @@
 -- `trace::calls::read_write` meets its contract. Assumes nothing.
 use mathlib.Core.Path.{sym, ◌∙◌}
-use Rattle.trace.proofs.Steps.{write_short, write_value, write_fault}
+use native.Mathlib.Omega.{arith}
+use Rattle.numbers.proofs.Most.{length_within, handed_on}
+use Rattle.trace.specs.Calls.{write_at}
 use Rattle.trace.proofs.calls.read_write.Goals as goal
 
-pub returns-then-here-length : goal.returns-then-here-length
-returns-then-here-length c = write_short _ _ _ _ c.left-most.ensures _ _ _ (sym c.read_most-found.ensures ∙ c.in-Value.is) c.left-here.ensures c.if-here-length.true
+pub returns-in_err-length : goal.returns-in_err-length
+unfolding write_at
+returns-in_err-length c = rw (← c.left-most.ensures, sym c.read_length.ensures ∙ c.in_err-length.was) (handed_on _ _ c.from_residual.ensures.1)
 
-pub returns-else-here-length : goal.returns-else-here-length
-returns-else-here-length c = write_value _ _ _ _ c.left-most.ensures _ _ _ _ (sym c.read_most-found.ensures ∙ c.in-Value.is) c.left-here.ensures c.if-here-length.false c.read_rest.ensures
+pub overflow_add-start : goal.overflow_add-start
+overflow_add-start c = omega (arith, (length_within _ _ _ _ _ (sym c.read_length.ensures ∙ c.in_ok-length.was)).ends)
 
-pub returns-in-Fault : goal.returns-in-Fault
-returns-in-Fault c = write_fault _ _ _ _ c.left-most.ensures _ (sym c.read_most-found.ensures ∙ c.in-Fault.is)
+pub returns : goal.returns
+unfolding write_at
+returns c = rw (← c.left-most.ensures, sym c.read_length.ensures ∙ c.in_ok-length.was) c.read_rest.ensures
