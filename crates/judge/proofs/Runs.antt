@@ -93,41 +93,18 @@ script_for C h (call ∷ calls) e r = step_replies C h call r.0 r.1.0 ++ script_
 -- a claim that a trace can make has a code that a card can send
 claimable : (flush? : Bool) (said : Said) → FairSaid flush? said → Claimable said
 unfolding Claimable
-claimable flush? said f code e = by flush? f.claim f.fair (sym e ∙ f.is)
+claimable flush? said f code e = by f.claim f.fair (sym e ∙ f.is)
   where
-    by : (b : Bool) (c : Claim) → Fair b c → error code ≡ claimed c → (0 < code) × (code ≤ 4294901759)
-    by b (Ok n) (Fair.ok m) q =
-        let z : ◌≡◌ {A = ℕ} 0 1 = cc in
-        absurd (omega arith)
-    by b Done Fair.done q =
-        let z : ◌≡◌ {A = ℕ} 0 1 = cc in
-        absurd (omega arith)
-    by b Interrupted (Fair.interrupted g) q =
-        let z : ◌≡◌ {A = ℕ} 0 1 = cc in
-        absurd (omega arith)
-    by b Zero (Fair.zero g) q =
-        let z : ◌≡◌ {A = ℕ} 0 1 = cc in
-        absurd (omega arith)
-    by b (Error k) (Fair.error g m lo hi) q =
-        let same : code ≡ k = cc in
-        (omega arith, omega arith)
+    by : (c : Claim) → Fair flush? c → error code ≡ claimed c → (0 < code) × (code ≤ 4294901759)
+    by c f q = grind arith
 
 -- no step leaves more than the capacity
 step_most : (C h : ℕ) (call : Told) (h' : ℕ) → h ≤ C → Step C h call h' → h' ≤ C
-step_most C h (wrote s said) h' k (WriteStep.stored a b c d) = omega arith
-step_most C h (wrote s said) h' k (WriteStep.refilled a b c d) = omega arith
-step_most C h (wrote s said) h' k (WriteStep.direct a b c) = omega arith
-step_most C h (wrote s said) h' k (WriteStep.stopped a b c d) = omega arith
-step_most C h (flushed said) h' k (FlushStep.emptied a b) = omega arith
-step_most C h (flushed said) h' k (FlushStep.stopped a b c) = omega arith
+step_most C h call h' k s = grind arith
 
 -- an accepted prefix is no longer than the slice
 accepted_most : (s : List ℕ) (a : Said) → length (accepted s a) ≤ length s
-accepted_most s a = by (is_ok a)
-  where
-    by : (t : Bool) → length (pick t (take (count_of a) s) []) ≤ length s
-    by true = rw (length-take (count_of a) s) (omega arith)
-    by false = omega arith
+accepted_most s a = grind (arith, length-take)
 
 pub piece_most : (call : Told) (calls : List Told) → length (piece call) + written calls ≤ written (call ∷ calls)
 unfolding written

@@ -1,35 +1,27 @@
 // A set of held counts, a flag for each of 0 to 1,024, and how a traced call moves it.
-ghost use Rattle.std.specs.Prelude.{◌≡◌, ◌+◌, ◌-◌, ◌≤◌, ◌<◌, length};
-ghost use Rattle.judge.specs.Flags.{Top, Adds, Lands, Storable, Between, landing, land_end, directs, syncs, zero_end, halts, stop_end, Turned};
+ghost use Rattle.std.specs.Prelude.{◌≡◌, ◌↔◌, ℕ, ◌≤◌, true, MatchOption};
+ghost use Rattle.judge.specs.Flags.{Has, Highest, Stored, landing, stores, directs, syncs, empties, halts, stops, Turned};
 
-use card::bytes;
-use trace::Claim;
+use card::limits;
+use trace::{Claim, TracedCall};
 
-// How many places lead up to the highest flag, 0 where none is set.
-fn top(flags: &[u8]) -> usize
-    ensures { Top flags.now result }
+// How many held counts there are: none, and each up to the largest capacity.
+pub(crate) const COUNTS: usize = limits::CAPACITY_MOST + 1;
+
+pub(crate) type Flags = [bool; COUNTS];
+
+// Whether a count's flag is set. Past the flags none is.
+pub(crate) fn has(flags: &Flags, count: usize) -> bool
+    ensures { (result ≡ true) ↔ Has flags.now count }
 {
-    let mut i = flags.len();
-    while 0 < i {
-        let before = i - 1;
-        if flags[before] == 1 {
-            return i;
-        }
-        i = before;
-    }
-    0
+    count < COUNTS && flags[count]
 }
 
-// Sets the flags from `low` up to `high`.
-fn mark(flags: &mut [u8], low: usize, high: usize)
-    requires { high ≤ length flags.old }
-    ensures { Adds flags.old flags.new (Between low high) }
+// The highest flag.
+fn highest(flags: &Flags) -> Option<usize>
+    ensures { MatchOption result ((k : ℕ) → Has flags.now k → ⊥) (Highest flags.now) }
 {
-    let mut i = low;
-    while i < high {
-        flags[i] = 1;
-        i += 1;
-    }
+    flags.iter().rposition(|held| *held)
 }
 
 // Where a stored slice of n bytes leaves h held bytes.
@@ -37,143 +29,88 @@ fn landing_of(capacity: usize, n: usize, h: usize) -> usize
     requires { (h ≤ 16384) × (n ≤ 16384) }
     ensures { result ≡ landing capacity n h }
 {
-    if h + n <= capacity {
-        return h + n;
-    }
-    n
+    if h + n <= capacity { h + n } else { n }
 }
 
-// Sets the flags at which those of `old` below `most` land, when a slice of n bytes is stored.
-fn land(old: &[u8], new: &mut [u8], capacity: usize, n: usize, most: usize)
-    requires { Storable capacity n most (length old.now) (length new.old) }
-    ensures { Adds new.old new.new (Lands capacity n most old.now) }
+// Whether a call says that its slice was stored.
+fn stores(capacity: usize, call: &TracedCall) -> bool
+    ensures { result ≡ stores capacity call.now.flush call.now.length call.now.claim }
 {
-    let mut i = 0;
-    while i < most {
-        let h = i;
-        i += 1;
-        if old[h] == 1 {
-            let at = landing_of(capacity, n, h);
-            new[at] = 1;
+    !call.flush && call.length < capacity && matches!(call.claim, Claim::Ok(m) if m == call.length)
+}
+
+// Where the flags of `old` land, if the call's slice was stored. No flag if it was not.
+fn stored(old: &Flags, capacity: usize, call: &TracedCall) -> Flags
+    requires { (capacity ≤ 1024) × (call.now.length ≤ 16384) }
+    ensures { Stored capacity call.now.flush call.now.length call.now.claim old.now result }
+{
+    let mut new = [false; COUNTS];
+    if stores(capacity, call) {
+        for (h, set) in old.iter().enumerate() {
+            if *set {
+                new[landing_of(capacity, call.length, h)] = true;
+            }
         }
     }
+    new
 }
 
-// ---- how far a claim reaches
-
-fn land_end(capacity: usize, flush: bool, n: usize, claim: Claim) -> usize
-    ensures { result ≡ land_end capacity flush n claim }
-{
-    match claim {
-        Claim::Ok(m) => {
-            if flush {
-                return 0;
-            }
-            if capacity <= n {
-                return 0;
-            }
-            if m == n {
-                return 1025;
-            }
-            0
-        }
-        Claim::Done => 0,
-        Claim::Interrupted => 0,
-        Claim::Zero => 0,
-        Claim::Error(_) => 0,
-    }
-}
-
-fn direct_end(n: usize, claim: Claim) -> usize
+// Whether a device write of n bytes can say this.
+fn directs(n: usize, claim: Claim) -> bool
     ensures { result ≡ directs n claim }
 {
     match claim {
-        Claim::Ok(m) => {
-            if m <= n {
-                return 1;
-            }
-            0
-        }
-        Claim::Done => 0,
-        Claim::Interrupted => 1,
-        Claim::Zero => 0,
-        Claim::Error(_) => 1,
+        Claim::Ok(m) => m <= n,
+        Claim::Interrupted | Claim::Error(_) => true,
+        Claim::Done | Claim::Zero => false,
     }
 }
 
-fn sync_end(claim: Claim) -> usize
+// Whether a device flush can say this.
+fn syncs(claim: Claim) -> bool
     ensures { result ≡ syncs claim }
 {
-    match claim {
-        Claim::Ok(_) => 0,
-        Claim::Done => 1,
-        Claim::Interrupted => 1,
-        Claim::Zero => 0,
-        Claim::Error(_) => 1,
-    }
+    matches!(claim, Claim::Done | Claim::Interrupted | Claim::Error(_))
 }
 
-fn zero_end(capacity: usize, flush: bool, n: usize, claim: Claim, high: usize) -> usize
-    ensures { result ≡ zero_end capacity flush n claim high }
+// Whether the call can leave nothing held.
+fn empties(capacity: usize, call: &TracedCall) -> bool
+    ensures { result ≡ empties capacity call.now.flush call.now.length call.now.claim }
 {
-    if high == 0 {
-        return 0;
+    if call.flush {
+        syncs(call.claim)
+    } else {
+        capacity <= call.length && directs(call.length, call.claim)
     }
-    if flush {
-        return sync_end(claim);
-    }
-    if capacity <= n {
-        return direct_end(n, claim);
-    }
-    0
 }
 
-fn halting(claim: Claim) -> usize
+// Whether a flush of the buffer that is stopped can say this.
+fn halts(claim: Claim) -> bool
     ensures { result ≡ halts claim }
 {
-    match claim {
-        Claim::Ok(_) => 0,
-        Claim::Done => 0,
-        Claim::Interrupted => 0,
-        Claim::Zero => 1,
-        Claim::Error(_) => 1,
-    }
+    matches!(claim, Claim::Zero | Claim::Error(_))
 }
 
-fn stop_end(capacity: usize, flush: bool, n: usize, claim: Claim, high: usize) -> usize
-    requires { (high ≤ 16384) × (n ≤ 16384) }
-    ensures { result ≡ stop_end capacity flush n claim high }
+// Whether a stopped flush can leave any count from 1 to `most`, the highest that was held.
+fn stops(capacity: usize, call: &TracedCall, most: usize) -> bool
+    requires { (most ≤ 1024) × (call.now.length ≤ 16384) }
+    ensures { result ≡ stops capacity call.now.flush call.now.length call.now.claim most }
 {
-    if halting(claim) == 0 {
-        return 0;
-    }
-    if flush {
-        return high;
-    }
-    if capacity < bytes::left(high, 1) + n {
-        return high;
-    }
-    0
+    halts(call.claim) && (call.flush || capacity < most + call.length)
 }
 
 // The flags after a call, from those before it.
-pub(crate) fn turn(
-    old: [u8; 1025],
-    capacity: usize,
-    flush: bool,
-    n: usize,
-    claim: Claim,
-) -> [u8; 1025]
-    requires { (capacity ≤ 1024) × (n ≤ 16384) }
-    ensures { Turned capacity flush n claim old result }
+pub(crate) fn turn(old: &Flags, capacity: usize, call: &TracedCall) -> Flags
+    requires { (capacity ≤ 1024) × (call.now.length ≤ 16384) }
+    ensures { Turned capacity call.now.flush call.now.length call.now.claim old.now result }
 {
-    let high = top(&old);
-    let lands = land_end(capacity, flush, n, claim);
-    let zero = zero_end(capacity, flush, n, claim, high);
-    let stop = stop_end(capacity, flush, n, claim, high);
-    let mut next = [0u8; 1025];
-    land(&old, &mut next, capacity, n, lands);
-    mark(&mut next, 0, zero);
-    mark(&mut next, 1, stop);
+    let Some(most) = highest(old) else {
+        return [false; COUNTS];
+    };
+    let mut next = stored(old, capacity, call);
+    next[0] |= empties(capacity, call);
+    if stops(capacity, call, most) {
+        next[1..=most].fill(true);
+    }
     next
 }

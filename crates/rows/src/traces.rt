@@ -6,11 +6,10 @@ use std::io;
 // A line: the trace's bytes and the verdict on it.
 fn show(rt: &HostRuntime, row: usize, trace: &[u8]) -> io::Result<()> {
     print::call(rt, row, b"judge")?;
-    let verdict = judge::judge(trace);
-    match verdict {
-        Verdict::Possible => print::word(rt, b" possible")?,
-        Verdict::Impossible => print::word(rt, b" impossible")?,
-        Verdict::Refused(place) => print::number(rt, b" refused 7 at ", place)?,
+    match judge::judge(trace) {
+        Ok(Verdict::Possible) => print::word(rt, b" possible")?,
+        Ok(Verdict::Impossible) => print::word(rt, b" impossible")?,
+        Err(fault) => print::number(rt, b" refused 7 at ", fault.place)?,
     }
     print::all(rt, b" trace ", trace)?;
     print::word(rt, b"\n")
