@@ -15,7 +15,7 @@ use Rattle.reader.specs.Buffer as Buffer
 use Rattle.reader.specs.Reader as Reader
 use Rattle.form.specs.declared.Call.{Call}
 use Rattle.form.specs.declared.Call.TheVariants.{Write, WriteAll, Flush, Read as ReadCall, Peek as PeekCall, Consume as ConsumeCall, Seek, Fill as FillCall}
-use Rattle.form.specs.declared.CallRead.TheVariants.{Found}
+use Rattle.numbers.specs.Number.{found}
 use Rattle.form.specs.Calls.{asked, call_at}
 use Rattle.form.proofs.Within.{Fits, within}
 use Rattle.text.specs.declared.Name.{Name}
@@ -108,7 +108,7 @@ of_fits t (ConsumeCall n) h = tt
 of_fits t (Seek back size) h = record { most = h.1.0; least = h.1.1 }
 of_fits t FillCall h = tt
 
-pub runs : (t : List ℕ) (at : ℕ) (call : Call) (place : ℕ) → call_at t 2 at ≡ Found call place → Runs (asked t call)
+pub runs : (t : List ℕ) (at : ℕ) (call : Call) (place : ℕ) → call_at t 2 at ≡ found call place → Runs (asked t call)
 runs t at call place q = of_fits t call (within t 2 at call place q).fits
 
 -- ---- the end line

@@ -12,11 +12,13 @@ use Rattle.card.specs.Limits.{bytes_most}
 use Rattle.flushing.specs.World as Writer
 use Rattle.reader.specs.World.{world}
 use Rattle.reader.specs.Buffer as Reader
+use Rattle.std.specs.Prelude.{Result, Ok, Err}
+use Rattle.numbers.specs.declared.Fault.{Fault}
 use Rattle.trace.specs.Trace.{trace_of}
 use Rattle.judge.specs.declared.Verdict.{Verdict}
 use Rattle.judge.specs.Judge.{Judged}
 use Rattle.form.specs.declared.Header.{Header}
-use Rattle.form.specs.declared.Checked.TheVariants.{Session, Traced, Fault}
+use Rattle.form.specs.declared.Checked.TheVariants.{Session, Traced}
 use Rattle.form.specs.Session.{session, session_of, checked}
 use Rattle.form.specs.Replies.{replies_in}
 use Rattle.form.proofs.Rests.{held, held_trace, refused, whole, whole_trace}
@@ -108,17 +110,17 @@ replies_in_lem t header g k e = let m = (whole t header g.replies g.stock g.call
 
 -- ---- the judge's line
 
-pub rules_by : (trace : List ℕ) (page after : Page) (verdict v : Verdict) → Judged (trace_of trace) verdict → verdict ≡ v → after ≡ written page (verdict_line v) → Rules trace page after
-rules_by trace page after verdict v j e q = record { text = verdict_line v; right = record { verdict = verdict; judged = j; is = ap (λ (z : Verdict). verdict_line z) (sym e) }; is = q }
+pub rules_by : (trace : List ℕ) (page after : Page) (verdict v : Result Verdict Fault) → Judged (trace_of trace) verdict → verdict ≡ v → after ≡ written page (verdict_line v) → Rules trace page after
+rules_by trace page after verdict v j e q = record { text = verdict_line v; right = record { verdict = verdict; judged = j; is = ap (λ (z : Result Verdict Fault). verdict_line z) (sym e) }; is = q }
 
 -- ---- the whole
 
-pub good : (t : List ℕ) (header : Header) → Session header ≡ checked (session_of t) → Good t header
+pub good : (t : List ℕ) (header : Header) → Ok (Session header) ≡ checked (session_of t) → Good t header
 good t header e =
     let h = held (session_of t) header e in
     record { replies = h.replies; stock = h.stock; calls = h.calls; is = h.is }
 
-pub prints_trace : (t : List ℕ) (start : ℕ) (trace : List ℕ) (page after : Page) → Traced start ≡ checked (session_of t) → trace ≡ take (length t) (drop start t) → Rules trace page after → Prints (session_of t) page after
+pub prints_trace : (t : List ℕ) (start : ℕ) (trace : List ℕ) (page after : Page) → Ok (Traced start) ≡ checked (session_of t) → trace ≡ take (length t) (drop start t) → Rules trace page after → Prints (session_of t) page after
 prints_trace t start trace page after e p u =
     let h = held_trace (session_of t) start e in
     let w = whole_trace t start h.trace h.is in
@@ -127,8 +129,8 @@ prints_trace t start trace page after e p u =
     let right = rw same at u.right in
     record { text = u.text; right = rw h.is right; is = u.is }
 
-pub prints_fault : (t : List ℕ) (place : ℕ) (page after : Page) → Fault place ≡ checked (session_of t) → after ≡ written page (session_refused place) → Prints (session_of t) page after
-prints_fault t place page after e p = record { text = session_refused place; right = rw (refused (session_of t) place e) refl; is = p }
+pub prints_fault : (t : List ℕ) (f : Fault) (page after : Page) → Err f ≡ checked (session_of t) → after ≡ written page (session_refused f.place) → Prints (session_of t) page after
+prints_fault t f page after e p = record { text = session_refused f.place; right = rw (refused (session_of t) f.place e) refl; is = p }
 
 -- ---- the output that is lent as a page
 

@@ -7,7 +7,9 @@ use native.Mathlib.Nat.{sub-zero}
 use native.Mathlib.Omega.{arith}
 use lib.ListN.{length, take, drop, length-drop}
 use Rattle.laws.proofs.Parts.{drop_least, take_least}
-use Rattle.form.specs.declared.CallRead.TheVariants.{Found, Fault}
+use Rattle.std.specs.Prelude.{Err}
+use Rattle.numbers.specs.declared.Fault.{Fault}
+use Rattle.numbers.specs.Number.{found}
 use Rattle.form.specs.declared.Call.{Call}
 use Rattle.form.specs.Lists.{listed}
 use Rattle.form.specs.Calls.{Asked, asked, call_at, calls_from}
@@ -39,7 +41,7 @@ begins {W} t kind count first step ends w₀ w page e =
     record { here = λ calls end q. record { rest = calls; is = rw (sub-zero count) q; same = ap (λ (s : W). written page (lines_of step ends s calls)) e } }
 
 module _ {W : Type 0} (t : List ℕ) (kind count first : ℕ) (step : W → Asked → Step W) (finish : W → List ℕ) (w₀ : W) (page₀ : Page) (w : W) (done place : ℕ) (page : Page) (i : Inv t kind count first step finish w₀ page₀ w done place page) where
-  pub again : (call : Call) (next-place : ℕ) (after : Page) (v : W) → call_at t kind place ≡ Found call next-place → Steps (step w (asked t call)) page after v → done < count → Inv t kind count first step finish w₀ page₀ v (done + 1) next-place after
+  pub again : (call : Call) (next-place : ℕ) (after : Page) (v : W) → call_at t kind place ≡ found call next-place → Steps (step w (asked t call)) page after v → done < count → Inv t kind count first step finish w₀ page₀ v (done + 1) next-place after
   unfolding lines_of
   again call next-place after v q p lt =
       record {
@@ -73,12 +75,12 @@ module _ {W : Type 0} (t : List ℕ) (kind count first : ℕ) (step : W → Aske
             ∙ h.same;
       }
 
-  pub never : (p : ℕ) (after : Page) → call_at t kind place ≡ Fault p → done < count → Lines t kind count first step finish w₀ page₀ after
-  never p after q lt =
+  pub never : (f : Fault) (after : Page) → call_at t kind place ≡ Err f → done < count → Lines t kind count first step finish w₀ page₀ after
+  never f after q lt =
       record {
         prints = λ calls end e.
             let h = i.here calls end e in
-            absurd (no_fault t kind (count - done) place h.rest end h.is p q (omega arith));
+            absurd (no_fault t kind (count - done) place h.rest end h.is f q (omega arith));
       }
 
 -- ---- a part of lent bytes

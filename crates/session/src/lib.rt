@@ -91,9 +91,9 @@ fn rule(trace: &[u8], page: &mut Page<'_>)
     ensures { Rules trace.now page.old page.new }
 {
     match judge::judge(trace) {
-        Verdict::Possible => page.judge_possible(),
-        Verdict::Impossible => page.judge_impossible(),
-        Verdict::Refused(place) => page.judge_refused(place),
+        Ok(Verdict::Possible) => page.judge_possible(),
+        Ok(Verdict::Impossible) => page.judge_impossible(),
+        Err(fault) => page.judge_refused(fault.place),
     }
 }
 
@@ -102,9 +102,9 @@ fn print(session: &[u8], page: &mut Page<'_>)
     ensures { Prints (session_of session.now) page.old page.new }
 {
     match whole::check(session) {
-        Checked::Session(header) => run(session, header, page),
-        Checked::Traced(start) => rule(part(session, start, session.len()), page),
-        Checked::Fault(place) => page.session_refused(place),
+        Ok(Checked::Session(header)) => run(session, header, page),
+        Ok(Checked::Traced(start)) => rule(part(session, start, session.len()), page),
+        Err(fault) => page.session_refused(fault.place),
     }
 }
 

@@ -11,7 +11,7 @@ ghost use Rattle.session.specs.Steps.{Shows, Bounded, Runs, Steps, Lines};
 
 use card::Answer;
 use card::limits::BYTES_MOST;
-use form::{Call, CallRead, Header, calls};
+use form::{Call, Header, calls};
 use reader::{Answered, State};
 use text::{Name, Page};
 
@@ -130,13 +130,11 @@ pub(crate) fn run(
     let mut state = reader::new();
     let mut place = header.first;
     for _ in 0..header.count {
-        match calls::read_call(session, 2, place) {
-            CallRead::Found(call, after) => {
-                state = step(session, call, state, storage, script, stock, page);
-                place = after;
-            }
-            CallRead::Fault(_) => return,
-        }
+        let Ok((call, after)) = calls::read_call(session, 2, place) else {
+            return;
+        };
+        state = step(session, call, state, storage, script, stock, page);
+        place = after;
     }
     page.reader_end(reader::buffered(storage, state), state.taken);
 }

@@ -9,7 +9,7 @@ ghost use Rattle.session.specs.Steps.{Steps, Lines};
 ghost use Rattle.session.specs.Writing.{told_write, told_write_all, writer_step, writer_ends};
 
 use flushing::{Answered, State};
-use form::{Call, CallRead, Header, calls};
+use form::{Call, Header, calls};
 use line::linewriter;
 use text::{Name, Page};
 use writer::bufwriter;
@@ -102,13 +102,11 @@ pub(crate) fn run(
     let mut state = bufwriter::new();
     let mut place = header.first;
     for _ in 0..header.count {
-        match calls::read_call(session, kind, place) {
-            CallRead::Found(call, after) => {
-                state = step(session, kind, call, state, storage, script, medium, page);
-                place = after;
-            }
-            CallRead::Fault(_) => return,
-        }
+        let Ok((call, after)) = calls::read_call(session, kind, place) else {
+            return;
+        };
+        state = step(session, kind, call, state, storage, script, medium, page);
+        place = after;
     }
     let held = bufwriter::buffer(state, storage);
     page.writer_end(held, crate::part(medium, 0, state.out));
