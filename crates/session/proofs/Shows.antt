@@ -33,7 +33,7 @@ use Rattle.session.specs.Writing.{writer_step, writer_ends, writer_text}
 use Rattle.session.specs.Reading.{reader_step, reader_ends, reader_text}
 use Rattle.session.specs.Session.{verdict_line, Ruled, Shown}
 use Rattle.session.specs.Steps.{Lines, Prints, Rules, Good, Ready}
-use Rattle.session.proofs.Offsets.{zeros}
+use Rattle.std.proofs.lemmas.List.{take-replicate}
 
 -- ---- the calls of a session
 
@@ -47,7 +47,7 @@ module _ (t : List ℕ) (header : Header) (script : List ℕ) (g : Ready t heade
         record {
           prints = λ calls end q.
               l.prints calls end q
-              ∙ ap (λ (st : List ℕ). written page (lines_of (λ w call. writer_step header.kind script w call) writer_ends (Writer.new st (replicate bytes_most 0)) calls)) (zeros header.capacity 1024 capacity_in);
+              ∙ ap (λ (st : List ℕ). written page (lines_of (λ w call. writer_step header.kind script w call) writer_ends (Writer.new st (replicate bytes_most 0)) calls)) (take-replicate header.capacity 1024 0 capacity_in);
         }
 
     pub read_lines : (stock : List ℕ) → stock ≡ take header.length (drop header.stock t) → Lines t 2 header.count header.first (λ w call. reader_step script stock w call) reader_ends (world (take header.capacity (replicate 1024 0)) Reader.new) page after → Lines t 2 header.count header.first (λ w call. reader_step script (take header.length (drop header.stock t)) w call) reader_ends (world (replicate header.capacity 0) Reader.new) page after
@@ -55,7 +55,7 @@ module _ (t : List ℕ) (header : Header) (script : List ℕ) (g : Ready t heade
         record {
           prints = λ calls end q.
               l.prints calls end q
-              ∙ ap₂ (λ (k st : List ℕ). written page (lines_of (λ w call. reader_step script k w call) reader_ends (world st Reader.new) calls)) e (zeros header.capacity 1024 capacity_in);
+              ∙ ap₂ (λ (k st : List ℕ). written page (lines_of (λ w call. reader_step script k w call) reader_ends (world st Reader.new) calls)) e (take-replicate header.capacity 1024 0 capacity_in);
         }
 
   -- the session line is printed first, and then the calls' lines

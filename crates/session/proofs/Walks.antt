@@ -2,11 +2,9 @@
 -- Assumes nothing.
 use mathlib.Core.Path.{◌≡◌, sym, ap, ◌∙◌}
 use mathlib.Core.List.{List, []}
-use Prim.Native.Nat.{ℕ, ◌+◌, ◌-◌, ◌≤◌, ◌<◌, min}
+use Prim.Native.Nat.{ℕ, ◌+◌, ◌-◌, ◌≤◌, ◌<◌}
 use native.Mathlib.Nat.{sub-zero}
 use native.Mathlib.Omega.{arith}
-use lib.ListN.{length, take, drop, length-drop}
-use Rattle.laws.proofs.Parts.{drop_least, take_least}
 use Rattle.std.specs.Prelude.{Err}
 use Rattle.numbers.specs.declared.Fault.{Fault}
 use Rattle.numbers.specs.Number.{found}
@@ -82,11 +80,3 @@ module _ {W : Type 0} (t : List ℕ) (kind count first : ℕ) (step : W → Aske
             let h = i.here calls end e in
             absurd (no_fault t kind (count - done) place h.rest end h.is f q (omega arith));
       }
-
--- ---- a part of lent bytes
-
-pub part_is : (s : List ℕ) (start n from k : ℕ) → from ≡ min start (length s) → k ≡ min n (length s - from) → take (from + k - from) (drop from s) ≡ take n (drop start s)
-part_is s start n from k pf pk =
-    let less : from + k - from ≡ k = omega arith in
-    let long : k ≡ min n (length (drop from s)) = pk ∙ ap (λ (j : ℕ). min n j) (sym (length-drop from s)) in
-    ap (λ (j : ℕ). take j (drop from s)) less ∙ take_least n k (drop from s) long ∙ ap (λ (l : List ℕ). take n l) (drop_least start from s pf)

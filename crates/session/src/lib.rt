@@ -24,9 +24,8 @@ use text::Page;
 fn part(bytes: &[u8], start: usize, n: usize) -> &[u8]
     ensures { result.now ≡ take n (drop start bytes.now) }
 {
-    let from = card::bytes::least(start, bytes.len());
-    let to = from + card::bytes::least(n, bytes.len() - from);
-    &bytes[from..to]
+    let rest = &bytes[start.min(bytes.len())..];
+    &rest[..n.min(rest.len())]
 }
 
 // A writer's calls, on storage of zeros and a medium of zeros.
