@@ -1,32 +1,33 @@
 // The device's calls.
 ghost use Rattle.std.specs.Prelude.{◌≡◌, ◌+◌, ◌-◌, min, length, drop};
 ghost use Rattle.laws.specs.Put.{put};
-ghost use Rattle.card.specs.Device.{reply_of, exchange, moves};
+ghost use Rattle.card.specs.Device.{reply_of, at_most, exchange, moves};
 
-use crate::{Exchange, Reply, bytes};
+use crate::{DeviceError, Exchange, Reply, bytes};
 
 // A number of the script as a reply.
 fn reply_of(n: u32) -> Reply
     ensures { result ≡ reply_of n }
 {
-    if n <= 65535 {
-        return Reply::Accept(n as usize);
+    match n {
+        0..=65535 => Ok(n as usize),
+        65536 => Err(DeviceError::Interrupted),
+        _ => Err(DeviceError::Error(n - 65536)),
     }
-    if n == 65536 {
-        return Reply::Interrupted;
-    }
-    Reply::Error(n - 65536)
 }
 
 // The bytes that move at a reply.
 pub fn moved(reply: Reply) -> usize
     ensures { result ≡ moves reply }
 {
-    match reply {
-        Reply::Accept(n) => n,
-        Reply::Interrupted => 0,
-        Reply::Error(_) => 0,
-    }
+    reply.unwrap_or(0)
+}
+
+// A reply cut to what there is room for.
+pub fn cut(reply: Reply, most: usize) -> Reply
+    ensures { result ≡ at_most most reply }
+{
+    reply.map(|n| n.min(most))
 }
 
 // One call of the device at which at most `most` bytes can move.
@@ -35,24 +36,14 @@ fn ask(script: &[u32], used: usize, most: usize) -> Exchange
 {
     if script.len() <= used {
         return Exchange {
-            reply: Reply::Error(0),
+            reply: Err(DeviceError::Error(0)),
             used,
         };
     }
     let reply = reply_of(script[used]);
-    match reply {
-        Reply::Accept(n) => Exchange {
-            reply: Reply::Accept(bytes::least(n, most)),
-            used: used + 1,
-        },
-        Reply::Interrupted => Exchange {
-            reply: Reply::Interrupted,
-            used: used + 1,
-        },
-        Reply::Error(code) => Exchange {
-            reply: Reply::Error(code),
-            used: used + 1,
-        },
+    Exchange {
+        reply: cut(reply, most),
+        used: used + 1,
     }
 }
 
@@ -62,8 +53,7 @@ pub fn write(script: &[u32], used: usize, offered: &[u8], medium: &mut [u8], out
 {
     let room = bytes::left(medium.len(), out);
     let e = ask(script, used, bytes::least(offered.len(), room));
-    let reply = e.reply;
-    bytes::copy(medium, out, offered, moved(reply));
+    bytes::copy(medium, out, offered, moved(e.reply));
     e
 }
 
@@ -74,8 +64,7 @@ pub fn read(script: &[u32], used: usize, room: &mut [u8], stock: &[u8], taken: u
     let from = bytes::least(taken, stock.len());
     let rest = &stock[from..];
     let e = ask(script, used, bytes::least(room.len(), rest.len()));
-    let reply = e.reply;
-    bytes::copy(room, 0, rest, moved(reply));
+    bytes::copy(room, 0, rest, moved(e.reply));
     e
 }
 
