@@ -3,14 +3,13 @@
 use mathlib.Core.Path.{◌≡◌, sym, ◌∙◌}
 use mathlib.Core.List.{List, ◌++◌}
 use Prim.Native.Nat.{ℕ}
-use Rattle.card.specs.declared.Answer.{Answer}
 use Rattle.text.specs.declared.Name.{Name}
 use Rattle.text.specs.declared.Page.{Page}
 use Rattle.text.specs.Printed.{written}
 use Rattle.text.specs.Words.{name_of}
 use Rattle.text.specs.Numbers.{decimal_of, hex_of}
 use Rattle.text.specs.Answers.{answer_of}
-use Rattle.card.specs.Answers.{said}
+use Rattle.card.specs.Answers.{Answer, said}
 use Rattle.text.specs.Lines.{session_line, writer_line, reader_line, writer_end, reader_end, judge_possible, judge_impossible, judge_refused, session_refused}
 
 -- what two functions that print the same text on the same page leave is the same

@@ -4,10 +4,11 @@ ghost use Rattle.std.specs.Prelude.{◌≡◌, [], ◌∷◌, ◌++◌, ◌/◌,
 ghost use Rattle.text.specs.Printed.{written};
 ghost use Rattle.text.specs.Words.{name_of};
 ghost use Rattle.text.specs.Numbers.{digit, decimal_of, hex_digits, hex_of};
-ghost use Rattle.text.specs.Answers.{answer_of};
+ghost use Rattle.card.specs.Answers.{failed};
+ghost use Rattle.text.specs.Answers.{said_of, answer_of};
 
 use crate::{Name, Page};
-use card::{Answer, bytes};
+use card::{Answer, Failure, bytes};
 
 // The byte of a digit.
 fn digit_byte(d: u8) -> u8
@@ -115,19 +116,29 @@ impl Page<'_> {
         self.say(name.words());
     }
 
+    // A failure's word, and its value after it.
+    #[tactic(auto, using(crate::proofs::Saids::failures))]
+    fn failure(&mut self, failure: Failure)
+        ensures { self.new ≡ written self.old (said_of (failed failure)) }
+    {
+        match failure {
+            Failure::Interrupted => self.say(b"interrupted"),
+            Failure::Zero => self.say(b"zero"),
+            Failure::Whole => self.say(b"whole"),
+            Failure::Error(code) => self.say_number(b"error ", code as usize),
+            Failure::Refused(number) => self.say_number(b"refused ", number as usize),
+        }
+    }
+
     // An answer.
-    #[tactic(auto, using(crate::proofs::Saids::saids))]
+    #[tactic(auto, using(crate::proofs::Saids::answers))]
     pub fn answer(&mut self, answer: Answer)
         ensures { self.new ≡ written self.old (answer_of answer) }
     {
         match answer {
-            Answer::Ok(n) => self.say_number(b"ok ", n),
-            Answer::Done => self.say(b"ok"),
-            Answer::Interrupted => self.say(b"interrupted"),
-            Answer::Zero => self.say(b"zero"),
-            Answer::Whole => self.say(b"whole"),
-            Answer::Error(code) => self.say_number(b"error ", code as usize),
-            Answer::Refused(number) => self.say_number(b"refused ", number as usize),
+            Ok(Some(n)) => self.say_number(b"ok ", n),
+            Ok(None) => self.say(b"ok"),
+            Err(failure) => self.failure(failure),
         }
     }
 }
