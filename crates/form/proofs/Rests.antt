@@ -26,7 +26,7 @@ use Rattle.form.specs.Calls.{Asked, write, write_all, flush, read, peek, consume
 use Rattle.form.specs.Session.{session_most, calls_most, Parsed, fault, traced, session, stock_of, calls_of, count_at, stock_at, script_at, replies_at, capacity_at, session_of, checked}
 use Rattle.form.proofs.Places.{fault_in}
 use Rattle.form.proofs.Within.{Fits, CallWithin, within, call_fault_in, stock_part, stock_fault_in}
-use Rattle.form.proofs.Walks.{Next, next_of, no_list, call_next, call_fault, call_none}
+use Rattle.form.proofs.Walks.{Next, next_of, call_next, call_fault, call_none}
 
 -- a check's answer, back to what the definition says
 pub record Held (p : Parsed) (header : Header) : Type 0 where
@@ -287,7 +287,7 @@ module _ (t : List ℕ) (kind left at : ℕ) (calls : List Asked) (end : ℕ) (e
   next call place q h = next_of (calls_from t kind) calls end left at place (asked t call) e (call_next t kind left at call place q h)
 
   pub no_fault : (f : Fault) → call_at t kind at ≡ Err f → 0 < left → ⊥
-  no_fault f q h = no_list f.place calls end (sym (call_fault t kind left at f q h) ∙ e)
+  no_fault f q h = let stops = call_fault t kind left at f q h in cc
 
   -- at the end there are no calls left, and the place is the end
   pub last : left ≤ 0 → (calls ≡ []) × (at ≡ end)

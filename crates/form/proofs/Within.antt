@@ -1,7 +1,7 @@
 -- What is read keeps: lengths, sizes and places lie within their limits and in the session.
 -- Assumes nothing.
 use mathlib.Core.Path.{◌≡◌, sym, ap, ◌∙◌}
-use mathlib.Core.Bool.{Bool, true, false}
+use mathlib.Core.Bool.{true}
 use mathlib.Core.List.{List}
 use Prim.Native.Nat.{ℕ, ◌+◌, ◌≤◌, ◌<◌}
 use native.Mathlib.Omega.{arith}
@@ -12,7 +12,7 @@ use Rattle.laws.proofs.Picks.{pick_holds}
 use Rattle.card.specs.Limits.{bytes_most}
 use Rattle.std.specs.Prelude.{Ok, Err}
 use Rattle.numbers.specs.Number.{Found, found, fault_at, number_most}
-use Rattle.numbers.proofs.Back.{no_value, same_found}
+use Rattle.numbers.proofs.Back.{same_found}
 use Rattle.numbers.proofs.Most.{most_value, most_places, LengthWithin, length_within, after_holds}
 use Rattle.form.specs.declared.Call.{Call}
 use Rattle.form.specs.declared.Call.TheVariants.{Write, WriteAll, Flush, Read, Peek, Consume, Seek, Fill}
@@ -50,7 +50,7 @@ stock_part t kind at n stock =
 pub stock_fault_in : (t : List ℕ) (kind at place : ℕ) → stock_of t kind at ≡ fault_at place → at ≤ length t → place ≤ length t
 unfolding stock_of
 stock_fault_in t kind at place =
-    pick_holds (λ r. r ≡ fault_at place → at ≤ length t → place ≤ length t) (eqb kind 2) (length_at t at) (found 0 at) (λ _ e h. length_at_in t at place e h) (λ _ e. absurd (no_value place 0 at (sym e)))
+    pick_holds (λ r. r ≡ fault_at place → at ≤ length t → place ≤ length t) (eqb kind 2) (length_at t at) (found 0 at) (λ _ e h. length_at_in t at place e h) (λ _ e. absurd (cc))
 
 -- What a call of a kind can ask for: writers' calls where the kind is not 2, a reader's where it is
 abbrev pub Fits : List ℕ → ℕ → Call → Type 0
@@ -75,9 +75,6 @@ pub record CallWithin (t : List ℕ) (kind at : ℕ) (call : Call) (next : ℕ) 
 abbrev GoodCall : List ℕ → ℕ → ℕ → Found Call → Type 0
 GoodCall t kind at (Ok (call, next)) = CallWithin t kind at call next
 GoodCall t kind at (Err e) = at ≤ length t → e.place ≤ length t
-
-true_false : ◌≡◌ {A = Bool} false true → ⊥
-true_false e = cc
 
 -- the calls one by one, where the call's number stands at place `from` and the rest at place `at`
 module _ (t : List ℕ) (kind from number at : ℕ) (here : number_most t from 7 ≡ found number at) where
@@ -138,7 +135,7 @@ module _ (t : List ℕ) (kind from number at : ℕ) (here : number_most t from 7
         let w = most_places t place word_most size next e in
         let small = (most_value t place word_most size next e).1 in
         pick_holds (GoodCall t kind from) (eqb direction 0) _ _
-        (λ _. record { body = at; number = there 6 q; later = omega (arith, after); ends = w.1; fits = (is, (small, λ f. absurd (true_false f))) })
+        (λ _. record { body = at; number = there 6 q; later = omega (arith, after); ends = w.1; fits = (is, (small, λ f. absurd (cc))) })
         (λ _. pick_holds (GoodCall t kind from) (eqb size 0) _ _ (λ _ _. l)
         (λ z. record { body = at; number = there 6 q; later = omega (arith, after); ends = w.1; fits = (is, (small, λ f. omega (arith, eqb-false size 0 z))) })))
 

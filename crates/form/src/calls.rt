@@ -1,7 +1,6 @@
 // The calls of a session.
 ghost use Rattle.std.specs.Prelude.{◌≡◌};
-ghost use Rattle.form.specs.Calls.{seek_at, writer_call, reader_call, call_at, calls_from};
-ghost use Rattle.form.specs.Lists.{skipped};
+ghost use Rattle.form.specs.Calls.{seek_at, writer_call, reader_call, call_at};
 
 use crate::Call;
 use card::limits;
@@ -11,6 +10,7 @@ use numbers::Fault;
 const SIZE_MOST: usize = 4294967295;
 
 // A writer's call, whose number stands at `at` and whose rest at `next`.
+#[tactic(auto, using(numbers::proofs::Most::length_within), unfolding(crate::specs::Calls::writer_call, crate::specs::Calls::write_at, crate::specs::Calls::write_all_at, crate::specs::Calls::length_at))]
 fn read_writer(
     session: &[u8],
     at: usize,
@@ -34,6 +34,7 @@ fn read_writer(
 }
 
 // After 6: direction and size, which is not 0 for back.
+#[tactic(auto, unfolding(crate::specs::Calls::seek_at, crate::specs::Calls::size_at))]
 fn read_seek(session: &[u8], at: usize) -> Result<(Call, usize), Fault>
     ensures { result ≡ seek_at session.now at }
 {
@@ -47,6 +48,7 @@ fn read_seek(session: &[u8], at: usize) -> Result<(Call, usize), Fault>
 }
 
 // A reader's call, whose number stands at `at` and whose rest at `next`.
+#[tactic(auto, unfolding(crate::specs::Calls::reader_call, crate::specs::Calls::read_at, crate::specs::Calls::peek_at, crate::specs::Calls::consume_at))]
 fn read_reader(
     session: &[u8],
     at: usize,
@@ -76,6 +78,7 @@ fn read_reader(
 
 // The call at a place of a session of this kind, and the place after it. The kind stays a number,
 // since any number is one: 2 is the reader, any other a writer.
+#[tactic(auto, unfolding(crate::specs::Calls::call_at))]
 pub fn read_call(session: &[u8], kind: usize, at: usize) -> Result<(Call, usize), Fault>
     ensures { result ≡ call_at session.now kind at }
 {
@@ -84,16 +87,4 @@ pub fn read_call(session: &[u8], kind: usize, at: usize) -> Result<(Call, usize)
         return read_reader(session, at, number, next);
     }
     read_writer(session, at, number, next)
-}
-
-// The place after so many calls from a place on.
-pub(crate) fn skip(session: &[u8], kind: usize, count: usize, first: usize) -> Result<usize, Fault>
-    ensures { result ≡ skipped (calls_from session.now kind count first) }
-{
-    let mut at = first;
-    for _ in 0..count {
-        let (_, next) = read_call(session, kind, at)?;
-        at = next;
-    }
-    Ok(at)
 }

@@ -1,14 +1,16 @@
 // The form of a session, the bench program's input. A session is read left to right, with the
-// place of its first fault (refusal 6), and without memory for its calls: `whole::check` reads it all,
-// `replies::read_replies` hands out its replies, `calls::read_call` reads one call again.
+// place of its first fault (refusal 6), and without memory for its calls: `whole::check` reads it
+// all, `replies::read_replies` hands out its replies, `calls::read_call` reads one call again.
 #![tactic(auto)]
 
 pub mod calls;
+mod lists;
 pub mod replies;
 pub mod whole;
 
 // One call of a session. The bytes of a write are the session's, from a start on, so many as the
-// length says: `Write(start, length)`. A seek's first value is true for back, false for on.
+// length says: `Write(start, length)`. A seek's first value is true for back, false for on: direction
+// and size stay the two numbers that the session has, and who seeks makes an offset of them.
 #[derive(Clone, Copy, Debug, PartialEq, Eq)]
 pub enum Call {
     Write(usize, usize),
@@ -24,7 +26,7 @@ pub enum Call {
 // What a session holds beside its lists: the kind (0 writer, 1 line writer, 2 reader) and the
 // capacity; how many replies there are and where the first stands; where the stock's bytes stand
 // and how many they are (none, after the replies, for a writer); how many calls there are and
-// where the first stands.
+// where the first stands. The kind stays the number that `calls::read_call` takes.
 #[derive(Clone, Copy, Debug, PartialEq, Eq)]
 pub struct Header {
     pub kind: usize,

@@ -35,10 +35,6 @@ by_cases P top start end left weight value at byte rest over long last go =
     (λ z. rw (p, s, z) (last p (ltb-true byte 128 s) (λ h. omega (arith, eqb-false byte 0 z)))))
     (λ s. rw (p, s) (go p (ltb-false byte 128 s))))
 
--- a fault is no value
-pub no_value : {A : Type 0} (p : ℕ) (a : A) (next : ℕ) → fault_at p ≡ found a next → ⊥
-no_value p a next e = cc
-
 -- a fault has one place
 pub same_place : {A : Type 0} (p q : ℕ) → fault_at {A = A} p ≡ fault_at q → p ≡ q
 same_place p q e =
@@ -54,11 +50,11 @@ same_found {A = A} a b m n e =
 -- a number that is read has at least one byte, and no byte past the end
 pub places : (top start end left weight value at : ℕ) (l : List ℕ) (v next : ℕ) → groups_from top start end left weight value at l ≡ found v next → (at < next) × (next ≤ at + length l)
 unfolding groups_from
-places top start end left weight value at [] v next e = absurd (no_value end v next e)
+places top start end left weight value at [] v next e = absurd (cc)
 places top start end left weight value at (byte ∷ rest) v next e =
     by_cases (λ n. n ≡ found v next → (at < next) × (next ≤ at + length (byte ∷ rest))) top start end left weight value at byte rest
-    (λ p e. absurd (no_value start v next e))
-    (λ p z a e. absurd (no_value start v next e))
+    (λ p e. absurd (cc))
+    (λ p z a e. absurd (cc))
     (λ p s a e. let q : at + 1 ≡ next = (same_found _ _ _ _ e).1 in (omega arith, omega arith))
     (λ p h e. let r = places top start end (left - 1) (weight * 128) (value + (byte - 128) * weight) (at + 1) rest v next e in (omega arith, omega arith))
     e
@@ -188,11 +184,11 @@ later top start left weight value at byte rest v next b small two s m =
 
 pub only_these : (top start end left weight value at : ℕ) (l : List ℕ) (v next : ℕ) → Bytes l → 1 ≤ left → top < 128 → start ≤ at → groups_from top start end left weight value at l ≡ found v next → Meant top start left weight value at l v next
 unfolding groups_from
-only_these top start end left weight value at [] v next f h t s e = absurd (no_value end v next e)
+only_these top start end left weight value at [] v next f h t s e = absurd (cc)
 only_these top start end left weight value at (byte ∷ rest) v next f h t s e =
     by_cases (λ n. n ≡ found v next → Meant top start left weight value at (byte ∷ rest) v next) top start end left weight value at byte rest
-    (λ p e. absurd (no_value start v next e))
-    (λ p z a e. absurd (no_value start v next e))
+    (λ p e. absurd (cc))
+    (λ p z a e. absurd (cc))
     (λ p l a e. let one = some_last left byte h l in let same = same_found _ _ _ _ e in record {
       meant = byte;
       makes = sym same.0;

@@ -13,15 +13,15 @@ use Rattle.std.specs.Result.{IsErrAnd}
 use Rattle.std.proofs.lemmas.Result.{err_from_is_err_and}
 use Rattle.numbers.specs.declared.Fault.{Fault}
 use Rattle.numbers.specs.Number.{Found, found, fault_at, number, within, number_most, after, length_most}
-use Rattle.numbers.proofs.Back.{no_value, same_found, value_places}
+use Rattle.numbers.proofs.Back.{same_found, value_places}
 
 by_number : (n : Found ℕ) (at most value next : ℕ) → within at most n ≡ found value next → (n ≡ found value next) × (value ≤ most)
 unfolding within
-by_number (Err fault) at most value next e = absurd (no_value fault.place value next e)
+by_number (Err fault) at most value next e = absurd (cc)
 by_number (Ok (v, n)) at most value next e =
     by_test (leb v most)
     (λ l. let e' : found v n ≡ found value next = rw l at e in (e', omega (arith, leb-true v most l, (same_found _ _ _ _ e').0)))
-    (λ l. let e' : fault_at at ≡ found value next = rw l at e in absurd (no_value at value next e'))
+    (λ l. let e' : fault_at at ≡ found value next = rw l at e in absurd (cc))
 
 -- a value within its limit is a number's
 pub most_value : (bytes : List ℕ) (at most value next : ℕ) → number_most bytes at most ≡ found value next → (number bytes at ≡ found value next) × (value ≤ most)
@@ -46,9 +46,9 @@ pub record LengthWithin (bytes : List ℕ) (at most n start : ℕ) : Type 0 wher
 pub length_within : (bytes : List ℕ) (at most n start : ℕ) → length_most bytes at most ≡ found n start → LengthWithin bytes at most n start
 unfolding length_most
 length_within bytes at most n start =
-    after_holds (λ r. r ≡ found n start → LengthWithin bytes at most n start) (number_most bytes at most) fault_at _ (λ p _ e. absurd (no_value p n start e))
+    after_holds (λ r. r ≡ found n start → LengthWithin bytes at most n start) (number_most bytes at most) fault_at _ (λ p _ e. absurd (cc))
     (λ m s q. pick_holds (λ r. r ≡ found n start → LengthWithin bytes at most n start) (ltb (length bytes - s) m) (fault_at (length bytes)) (found m s)
-    (λ _ e. absurd (no_value (length bytes) n start e))
+    (λ _ e. absurd (cc))
     (λ l e.
     let w = most_places bytes at most m s q in
     let v = most_value bytes at most m s q in

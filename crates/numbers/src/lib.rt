@@ -44,6 +44,7 @@ fn read_groups(bytes: &[u8], at: usize, groups: usize, top: usize) -> Result<(us
 }
 
 // The number at a place, and the place after its last byte.
+#[tactic(auto, unfolding(crate::specs::Number::number))]
 pub fn read(bytes: &[u8], at: usize) -> Result<(usize, usize), Fault>
     ensures { result ≡ number bytes.now at }
 {
@@ -51,6 +52,7 @@ pub fn read(bytes: &[u8], at: usize) -> Result<(usize, usize), Fault>
 }
 
 // The same of a number that may be at most `most`.
+#[tactic(auto, unfolding(crate::specs::Number::number_most, crate::specs::Number::within))]
 pub fn read_most(bytes: &[u8], at: usize, most: usize) -> Result<(usize, usize), Fault>
     ensures { result ≡ number_most bytes.now at most }
 {
@@ -62,6 +64,7 @@ pub fn read_most(bytes: &[u8], at: usize, most: usize) -> Result<(usize, usize),
 }
 
 // The same of a length, which so many bytes follow: the length, and the place of its bytes.
+#[tactic(auto, using(crate::proofs::Most::most_places), unfolding(crate::specs::Number::length_most))]
 pub fn read_length(bytes: &[u8], at: usize, most: usize) -> Result<(usize, usize), Fault>
     ensures { result ≡ length_most bytes.now at most }
 {

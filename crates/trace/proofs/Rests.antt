@@ -45,10 +45,6 @@ refused (fault q) place e =
     ap (λ (x : ℕ). fault x) s
 refused (trace h calls card) place e = absurd (cc)
 
--- a fault is no trace
-no_trace : (place : ℕ) (header : Header) (calls : List Told) (card : List ℕ) → fault place ≡ trace header calls card → ⊥
-no_trace place header calls card e = cc
-
 -- a claim that a call of this kind can make, as the trace says it
 pub record FairSaid (flush : Bool) (said : Said) : Type 0 where
   pub claim : Claim
@@ -181,9 +177,9 @@ whole_count t capacity count first header calls card hc hk hf e =
 pub whole : (t : List ℕ) (header : Header) (calls : List Told) (card : List ℕ) → trace_of t ≡ trace header calls card → Trace t header calls card
 unfolding trace_of count_at
 whole t header calls card =
-    after_holds (λ p. p ≡ trace header calls card → Trace t header calls card) (number_most t 0 capacity_most) fault _ (λ p e q. absurd (no_trace p header calls card q))
+    after_holds (λ p. p ≡ trace header calls card → Trace t header calls card) (number_most t 0 capacity_most) fault _ (λ p e q. absurd (cc))
     (λ capacity next e.
-    after_holds (λ p. p ≡ trace header calls card → Trace t header calls card) (number_most t next calls_most) fault _ (λ p e q. absurd (no_trace p header calls card q))
+    after_holds (λ p. p ≡ trace header calls card → Trace t header calls card) (number_most t next calls_most) fault _ (λ p e q. absurd (cc))
     (λ count first k q. whole_count t capacity count first header calls card (most_value t 0 capacity_most capacity next e).1 (most_value t next calls_most count first k).1 (most_places t next calls_most count first k).1 q))
 
 module _ (t : List ℕ) (capacity count first : ℕ) (left total at : ℕ) (header : Header) (calls : List Told) (card : List ℕ) (e : calls_from t capacity count first left total at ≡ trace header calls card) where
@@ -197,14 +193,14 @@ module _ (t : List ℕ) (capacity count first : ℕ) (left total at : ℕ) (head
   next call q h = by (calls_from t capacity count first (left - 1) (total + call.length) call.next) refl (sym (one_call t capacity count first left total at call q h) ∙ e)
     where
       by : (p : Parsed) → calls_from t capacity count first (left - 1) (total + call.length) call.next ≡ p → before (told t call) p ≡ trace header calls card → Next call
-      by (fault place) r s = absurd (no_trace place header calls card s)
+      by (fault place) r s = absurd (cc)
       by (trace h later c) r s =
           let hh : h ≡ header = cc in
           let hc : c ≡ card = cc in
           record { later = later; front = cc; goes = cc }
 
   pub no_fault : (f : Fault) → call_at t total at ≡ Err f → 0 < left → ⊥
-  no_fault f q h = no_trace f.place header calls card (sym (no_call t capacity count first left total at f q h) ∙ e)
+  no_fault f q h = let stops = no_call t capacity count first left total at f q h in cc
 
   -- at the end there are no calls left
   pub last : left ≤ 0 → calls ≡ []

@@ -94,9 +94,6 @@ abbrev pub GoodCall : List ℕ → ℕ → ℕ → Result TracedCall Fault → T
 GoodCall t total at (Read call) = CallWithin t total at call
 GoodCall t total at (Err f) = Unit
 
-true_false : ◌≡◌ {A = Bool} false true → ⊥
-true_false e = cc
-
 traced_good : (t : List ℕ) (flush : Bool) (total start n from at : ℕ) → start + n ≤ length t → n ≤ bytes_most - total → (flush ≡ true → n ≡ 0) → from ≤ at → GoodCall t total from (traced t flush start n at)
 unfolding traced
 traced_good t flush total start n from at p r z h =
@@ -111,7 +108,7 @@ write_good t total from at h =
     after_holds (GoodCall t total from) (length_most t at (bytes_most - total)) fault_at _ (λ p e. tt)
     (λ n start e.
     let w = length_within t at (bytes_most - total) n start e in
-    traced_good t false total start n from (start + n) w.ends w.small (λ f. absurd (true_false f)) (omega (arith, w.later)))
+    traced_good t false total start n from (start + n) w.ends w.small (λ f. absurd (cc)) (omega (arith, w.later)))
 
 pub call_good : (t : List ℕ) (total at : ℕ) → GoodCall t total at (call_at t total at)
 unfolding call_at

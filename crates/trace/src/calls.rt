@@ -7,6 +7,7 @@ use card::{bytes, limits};
 use numbers::Fault;
 
 // A call with its claim: `length` bytes from `start` on.
+#[tactic(auto, unfolding(crate::specs::Calls::traced))]
 fn read_rest(
     trace: &[u8],
     flush: bool,
@@ -27,6 +28,7 @@ fn read_rest(
 }
 
 // After 0: length, bytes, answer. `total` bytes were written before.
+#[tactic(auto, using(numbers::proofs::Most::length_within), unfolding(crate::specs::Calls::write_at))]
 fn read_write(trace: &[u8], total: usize, at: usize) -> Result<TracedCall, Fault>
     ensures { result ≡ write_at trace.now total at }
 {
@@ -36,6 +38,7 @@ fn read_write(trace: &[u8], total: usize, at: usize) -> Result<TracedCall, Fault
 }
 
 // The call at a place, when the calls before it wrote `total` bytes.
+#[tactic(auto, unfolding(crate::specs::Calls::call_at))]
 pub fn read_call(trace: &[u8], total: usize, at: usize) -> Result<TracedCall, Fault>
     ensures { result ≡ call_at trace.now total at }
 {

@@ -9,6 +9,7 @@ use numbers::Fault;
 const CODE_MOST: usize = 4294901759;
 
 // After 0 of a write: the count.
+#[tactic(auto, unfolding(crate::specs::Claims::ok_at))]
 fn read_ok(trace: &[u8], at: usize) -> Result<(Claim, usize), Fault>
     ensures { result ≡ ok_at trace.now at }
 {
@@ -17,6 +18,7 @@ fn read_ok(trace: &[u8], at: usize) -> Result<(Claim, usize), Fault>
 }
 
 // After 3: the code, which is not 0.
+#[tactic(auto, using(numbers::proofs::Most::most_value), unfolding(crate::specs::Claims::error_at))]
 fn read_error(trace: &[u8], at: usize) -> Result<(Claim, usize), Fault>
     ensures { result ≡ error_at trace.now at }
 {
@@ -28,6 +30,7 @@ fn read_error(trace: &[u8], at: usize) -> Result<(Claim, usize), Fault>
 }
 
 // The claimed answer at a place, and the place after it.
+#[tactic(auto, unfolding(crate::specs::Claims::claim_of, crate::specs::Claims::claim_at))]
 pub(crate) fn read_claim(trace: &[u8], flush: bool, at: usize) -> Result<(Claim, usize), Fault>
     ensures { result ≡ claim_at trace.now flush at }
 {

@@ -9,6 +9,7 @@ use numbers::Fault;
 pub const CALLS_MOST: usize = 256;
 
 // The whole trace, left to right: capacity, call count, calls, card length and bytes, then nothing.
+#[tactic(auto, using(numbers::proofs::Most::length_within, crate::proofs::Walk::end), unfolding(crate::specs::Trace::trace_of, crate::specs::Trace::count_at, crate::specs::Trace::card_at))]
 pub fn check(trace: &[u8]) -> Result<Header, Fault>
     ensures { result ≡ checked (trace_of trace.now) }
 {
