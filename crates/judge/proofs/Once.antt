@@ -34,14 +34,8 @@ Halves P v = ((ruling v ≡ 1 ∷ []) ↔ P) × ((ruling v ≡ 0 ∷ []) ↔ (P 
 -- such a trace is not refused: whoever denies that it is possible has to say impossible
 not_refused : (P : Type 0) (e : Fault) → Halves P (Err e) → ⊥
 not_refused P e h =
-    let never : P → ⊥ = λ p. other (h.0.1 p) in
-    none (h.1.1 never)
-  where
-    other : ◌≡◌ {A = List ℕ} (5 ∷ 7 ∷ e.place ∷ []) (1 ∷ []) → ⊥
-    other q = cc
-
-    none : ◌≡◌ {A = List ℕ} (5 ∷ 7 ∷ e.place ∷ []) (0 ∷ []) → ⊥
-    none q = cc
+    let never : P → ⊥ = λ p. cc (h.0.1 p) in
+    cc (h.1.1 never)
 
 halves_once : (P : Type 0) (v u : Result Verdict Fault) → Halves P v → Halves P u → v ≡ u
 halves_once P (Ok possible) (Ok possible) a b = refl

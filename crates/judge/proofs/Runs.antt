@@ -6,17 +6,14 @@ use mathlib.Core.List.{List, [], ◌∷◌, ◌++◌, append_assoc, append-nil}
 use Prim.Native.Nat.{ℕ, ◌+◌, ◌-◌, ◌≤◌, ◌<◌, ◌^◌}
 use native.Mathlib.Omega.{arith}
 use lib.ListN.{length, take, replicate, length-append, length-take, length-replicate}
-use lib.Dec.{eqb}
 use lib.Seq.{take_at, length-take-le}
-use Rattle.laws.specs.Pick.{pick}
 use Rattle.card.specs.Answers.{Said, error}
-use Rattle.flushing.specs.World.{World, begun, replies, is_ok, new, count_of}
+use Rattle.flushing.specs.World.{World, begun, replies, new}
 use Rattle.writer.specs.Writer.{write, flush}
 use Rattle.ledger.specs.Ledger.{accepted, ledger}
 use Rattle.ledger.proofs.Moves.{In, Moved, moved_in}
 use Rattle.ledger.proofs.Ledgers.{begun_fit, from_begun, write_moved, flush_moved}
 use Rattle.trace.specs.declared.Claim.{Claim}
-use Rattle.trace.specs.declared.Claim.TheVariants.{Ok, Done, Interrupted, Zero, Error}
 use Rattle.trace.specs.Claims.{claimed}
 use Rattle.trace.specs.Calls.{Told, wrote, flushed, written}
 use Rattle.trace.proofs.Within.{Fair}
@@ -180,11 +177,7 @@ numbers_append (n ∷ a) b x y = (x.0, numbers_append a b x.1 y)
 
 numbers_sends : (k : ℕ) → k ≤ 1024 → Numbers (sends k)
 unfolding Numbers
-numbers_sends k h = by (eqb k 0)
-  where
-    by : (t : Bool) → Numbers (pick t [] (k ∷ []))
-    by true = tt
-    by false = (omega arith, tt)
+numbers_sends k h = grind arith
 
 numbers_one : (n : ℕ) → n < 2 ^ 32 → Numbers (n ∷ [])
 unfolding Numbers
@@ -192,20 +185,15 @@ numbers_one n h = (h, tt)
 
 direct_number : (n : ℕ) (said : Said) (d : Direct n said) → Claimable said → n ≤ 16384 → direct_reply d < 2 ^ 32
 unfolding direct_reply Claimable
-direct_number n said (Direct.took m h e) c l = omega arith
-direct_number n said (Direct.cut_off e) c l = omega arith
-direct_number n said (Direct.failed code e) c l = omega (arith, (c code e).1)
+direct_number n said d c l = grind arith
 
 synced_number : (said : Said) (d : Synced said) → Claimable said → synced_reply d < 2 ^ 32
 unfolding synced_reply Claimable
-synced_number said (Synced.well e) c = omega arith
-synced_number said (Synced.cut_off e) c = omega arith
-synced_number said (Synced.failed code e) c = omega (arith, (c code e).1)
+synced_number said d c = grind arith
 
 stopped_number : (said : Said) (d : Stopped said) → Claimable said → stopped_reply d < 2 ^ 32
 unfolding stopped_reply Claimable
-stopped_number said (Stopped.none e) c = omega arith
-stopped_number said (Stopped.failed code e) c = omega (arith, (c code e).1)
+stopped_number said d c = grind arith
 
 step_numbers : (C h : ℕ) (call : Told) (calls : List Told) (h' : ℕ) (st : Step C h call h') → FairTold call → C ≤ 1024 → h ≤ C → written (call ∷ calls) ≤ 16384 → Numbers (step_replies C h call h' st)
 unfolding write_replies flush_replies Numbers

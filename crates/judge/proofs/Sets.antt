@@ -7,7 +7,7 @@ use mathlib.Core.List.{List}
 use Prim.Native.Nat.{ℕ, ◌+◌, ◌-◌, ◌≤◌, ◌<◌}
 use native.Mathlib.Omega.{arith}
 use borrow.Rule.Slice.PartMut.{put_mid}
-use lib.ListN.{length, get_or, set, take, drop, replicate}
+use lib.ListN.{length, get_or, set, take, drop, replicate, length-replicate}
 use lib.Seq.{get_or-set_same}
 use Rattle.std.proofs.lemmas.Bool.{cases_eq, or_cases, or_left, or_right}
 use Rattle.std.proofs.lemmas.Bool.Decides.{nat_tests}
@@ -24,6 +24,10 @@ none_set m k x = grind (arith, places)
 -- a flag that is set
 pub has_set : (l : List Bool) (i k : ℕ) → i < length l → Has (set l i true) k ↔ (Has l k ⊎ (k ≡ i))
 has_set l i k h = grind (arith, places, get_or-set_same, cases_eq k i)
+
+-- of a new set with its first flag
+pub has_new : (m k : ℕ) → 0 < m → Has (set (replicate m false) 0 true) k ↔ (k ≡ 0)
+has_new m k h = grind (arith, has_set (replicate m false) 0 k, none_set m k, length-replicate m false)
 
 -- the first flag, set where b holds
 pub has_first : (l : List Bool) (b : Bool) (k : ℕ) → 0 < length l → Has (set l 0 (get_or l 0 false || b)) k ↔ (Has l k ⊎ ((b ≡ true) × (k ≡ 0)))

@@ -1,17 +1,16 @@
 -- A call's turn of the flags is the table's.
 -- Assumes nothing.
-use mathlib.Core.Path.{◌≡◌, refl, sym, ap, ◌∙◌, subst}
+use mathlib.Core.Path.{◌≡◌, refl, sym, ◌∙◌, subst}
 use mathlib.Core.Logic.{◌↔◌, ◌⊎◌, inl, inr, ⊎_elim}
 use mathlib.Core.Bool.{Bool, true, false, ◌||◌}
 use mathlib.Core.List.{List}
-use Prim.Native.Nat.{ℕ, ◌+◌, ◌-◌, ◌≤◌, ◌<◌}
-use native.Mathlib.Decide.{dec_le}
+use Prim.Native.Nat.{ℕ, ◌+◌, ◌-◌, ◌<◌}
 use native.Mathlib.Omega.{arith}
 use lib.ListN.{length, get_or, set, take, drop, replicate, length-set}
 use borrow.Rule.Slice.PartMut.{put_mid}
-use lib.Dec.{leb, ltb, eqb}
+use lib.Dec.{leb, ltb}
 use Rattle.std.proofs.lemmas.Bool.Decides.{nat_tests}
-use Rattle.std.proofs.lemmas.Bool.{ltb-true, lt-ltb, leb-true, le-leb, lt-leb, eqb-true, eq-eqb, and_parts, and_from, false≢true}
+use Rattle.std.proofs.lemmas.Bool.{ltb-true, leb-true, and_parts, false≢true}
 use Rattle.card.specs.Answers.{ok}
 use Rattle.trace.specs.declared.Claim.{Claim}
 use Rattle.trace.specs.declared.Claim.TheVariants.{Ok, Done, Interrupted, Zero, Error}
@@ -116,8 +115,8 @@ leads_kinds C flush n claim old most k h t x s = grind (arith, nat_tests, has_wi
 -- ---- a turn
 
 -- without a flag nothing follows
-pub none_turned : (C : ℕ) (flush : Bool) (n : ℕ) (claim : Claim) (old : List Bool) (m : ℕ) → ((k : ℕ) → Has old k → ⊥) → Turned C flush n claim old (replicate m false)
-none_turned C flush n claim old m none = record { at = λ k. ((λ x. absurd (none_set m k x)), (λ x. absurd (none x.from x.set))) }
+pub none_turned : (C : ℕ) (flush : Bool) (n : ℕ) (claim : Claim) (old : List Bool) → ((k : ℕ) → Has old k → ⊥) → Turned C flush n claim old old
+none_turned C flush n claim old none = record { at = λ k. ((λ x. absurd (none k x)), (λ x. absurd (none x.from x.set))) }
 
 turned : (C : ℕ) (flush : Bool) (n : ℕ) (claim : Claim) (old new : List Bool) (most : ℕ) → Highest old most → ((k : ℕ) → Has new k ↔ Kinds C flush n claim old most k) → Turned C flush n claim old new
 turned C flush n claim old new most t i =

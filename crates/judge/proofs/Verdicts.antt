@@ -5,20 +5,21 @@ use mathlib.Core.Bool.{Bool}
 use mathlib.Core.List.{List}
 use Prim.Native.Nat.{ℕ, ◌+◌, ◌-◌, ◌≤◌}
 use native.Mathlib.Omega.{arith}
-use lib.ListN.{length, get_or, take, drop, length-take, length-drop}
-use Rattle.std.specs.Prelude.{Some, None, Result, Ok, Err}
+use lib.ListN.{length, take, length-take}
+use Rattle.std.specs.Prelude.{Some, Result, Ok, Err}
 use lib.Seq.{length-take-le}
 use Rattle.numbers.specs.declared.Fault.{Fault}
 use Rattle.trace.specs.declared.Header.{Header}
 use Rattle.trace.specs.Calls.{Told}
 use Rattle.trace.specs.Trace.{Parsed, trace, trace_of, checked}
-use Rattle.trace.proofs.Rests.{held, whole, refused, rest}
+use Rattle.trace.proofs.Rests.{held, whole, refused}
 use Rattle.judge.specs.declared.Verdict.{Verdict}
 use Rattle.judge.specs.declared.Verdict.TheVariants.{Possible as possible, Impossible as impossible}
 use Rattle.judge.specs.Judge.{Possible, Judged}
 use Rattle.judge.specs.Table.{pieces, Left, Goes}
 use Rattle.judge.specs.Flags.{Has, Reached, OfTrace, Comparison, Ruled}
 use Rattle.judge.proofs.Runs.{possible_goes, goes_possible}
+use Rattle.judge.proofs.Walks.{begun, card_long}
 
 -- a card that is what is left of l begins l, and is as long as that
 pub left_begins : (e : ℕ) (l card : List ℕ) → Left e l card → (card ≡ take (length card) l) × (length card + e ≡ length l)
@@ -28,10 +29,8 @@ left_begins e l card x =
 
 module _ (t : List ℕ) (h : Header) where
   -- the card's length
-  card_long : OfTrace t h (λ calls card. length card ≡ h.length)
-  card_long calls card e =
-      let r = rest t h.capacity h.count h.first h.count 0 h.first h calls card e in
-      ap length r.card_is ∙ length-take-le h.length (drop h.card t) (rw (length-drop h.card t) (omega (arith, r.card_ends)))
+  long : OfTrace t h (λ calls card. length card ≡ h.length)
+  long calls card e = card_long t h 0 0 h.first calls card (begun t h ∙ e)
 
   module _ (answered held-count : ℕ) (set : List Bool) (a : OfTrace t h (Comparison (Some answered))) (r : OfTrace t h (λ calls card. Reached h.capacity calls set)) (ph : held-count ≡ answered - h.length) where
     -- no other count than this can be what is left
@@ -39,12 +38,12 @@ module _ (t : List ℕ) (h : Header) where
     only_count calls card e g =
         let x = a calls card e in
         let y = left_begins g.end (pieces calls) card g.left in
-        omega (arith, x.0, y.1, card_long calls card e, ph)
+        omega (arith, x.0, y.1, long calls card e, ph)
 
     pub rules_possible : Has set held-count → OfTrace t h (Ruled h.capacity possible)
     rules_possible s calls card e =
         let x = a calls card e in
-        let cl = card_long calls card e in
+        let cl = long calls card e in
         let short : length card ≤ length (pieces calls) =
         let m = length-take (length card) (pieces calls) in
         let n = ap length x.1 in
@@ -66,10 +65,10 @@ module _ (header : Header) (calls : List Told) (card : List ℕ) (to : Possible 
   unfolding Judged
   judged_by possible g = (
     ((λ e. from g), (λ p. refl)),
-    ((λ e. absurd (omega (arith, ap (λ (l : List ℕ). get_or l 0 2) e))), (λ n. absurd (n (from g)))),
+    ((λ e. cc), (λ n. absurd (n (from g)))),
   )
   judged_by impossible g = (
-    ((λ e. absurd (omega (arith, ap (λ (l : List ℕ). get_or l 0 2) e))), (λ p. absurd (g (to p)))),
+    ((λ e. cc), (λ p. absurd (g (to p)))),
     ((λ e p. g (to p)), (λ n. refl)),
   )
 

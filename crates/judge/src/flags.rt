@@ -1,58 +1,114 @@
 // A set of held counts, a flag for each of 0 to 1,024, and how a traced call moves it.
-ghost use Rattle.std.specs.Prelude.{◌≡◌, ◌↔◌, ℕ, ◌≤◌, true, MatchOption};
+ghost use Rattle.std.specs.Prelude.{◌≡◌, ◌↔◌, ℕ, ◌≤◌, ◌<◌, true, MatchOption};
 ghost use Rattle.judge.specs.Flags.{Has, Highest, Stored, landing, stores, directs, syncs, empties, halts, stops, Turned};
 
 use card::limits;
 use trace::{Claim, TracedCall};
 
 // How many held counts there are: none, and each up to the largest capacity.
-pub(crate) const COUNTS: usize = limits::CAPACITY_MOST + 1;
+const COUNTS: usize = limits::CAPACITY_MOST + 1;
 
-pub(crate) type Flags = [bool; COUNTS];
-
-// Whether a count's flag is set. Past the flags none is.
-pub(crate) fn has(flags: &Flags, count: usize) -> bool
-    ensures { (result ≡ true) ↔ Has flags.now count }
-{
-    count < COUNTS && flags[count]
+// Which counts of bytes a buffer of this capacity can hold.
+#[derive(Drop)]
+pub(crate) struct Counts {
+    capacity: usize,
+    flags: [bool; COUNTS],
+    ghost small: { capacity ≤ 1024 },
 }
 
-// The highest flag.
-fn highest(flags: &Flags) -> Option<usize>
-    ensures { MatchOption result ((k : ℕ) → Has flags.now k → ⊥) (Highest flags.now) }
-{
-    flags.iter().rposition(|held| *held)
-}
+impl Counts {
+    // Nothing held.
+    pub(crate) fn new(capacity: usize) -> Counts
+        requires { capacity ≤ 1024 }
+        ensures capacity { result.capacity ≡ capacity }
+        ensures flags { (k : ℕ) → Has result.flags k ↔ (k ≡ 0) }
+    {
+        let mut flags = [false; COUNTS];
+        flags[0] = true;
+        Counts { capacity, flags }
+    }
 
-// Where a stored slice of n bytes leaves h held bytes.
-fn landing_of(capacity: usize, n: usize, h: usize) -> usize
-    requires { (h ≤ 16384) × (n ≤ 16384) }
-    ensures { result ≡ landing capacity n h }
-{
-    if h + n <= capacity { h + n } else { n }
-}
+    // Whether so many bytes can be held.
+    pub(crate) fn has(&self, count: usize) -> bool
+        ensures { (result ≡ true) ↔ Has self.now.flags count }
+    {
+        count < COUNTS && self.flags[count]
+    }
 
-// Whether a call says that its slice was stored.
-fn stores(capacity: usize, call: &TracedCall) -> bool
-    ensures { result ≡ stores capacity call.now.flush call.now.length call.now.claim }
-{
-    !call.flush && call.length < capacity && matches!(call.claim, Claim::Ok(m) if m == call.length)
-}
+    // The most that can be held, if anything of this set can.
+    fn highest(&self) -> Option<usize>
+        ensures { MatchOption result ((k : ℕ) → Has self.now.flags k → ⊥) (Highest self.now.flags) }
+    {
+        self.flags.iter().rposition(|held| *held)
+    }
 
-// Where the flags of `old` land, if the call's slice was stored. No flag if it was not.
-fn stored(old: &Flags, capacity: usize, call: &TracedCall) -> Flags
-    requires { (capacity ≤ 1024) × (call.now.length ≤ 16384) }
-    ensures { Stored capacity call.now.flush call.now.length call.now.claim old.now result }
-{
-    let mut new = [false; COUNTS];
-    if stores(capacity, call) {
-        for (h, set) in old.iter().enumerate() {
-            if *set {
-                new[landing_of(capacity, call.length, h)] = true;
+    // Where a stored slice of n bytes leaves h held bytes.
+    fn landing(&self, n: usize, h: usize) -> usize
+        requires { (n < self.now.capacity) × (h ≤ 1024) }
+        ensures { result ≡ landing self.now.capacity n h }
+    {
+        if h + n <= self.capacity { h + n } else { n }
+    }
+
+    // Whether a call says that its slice was stored.
+    fn stores(&self, call: &TracedCall) -> bool
+        ensures { result ≡ stores self.now.capacity call.now.flush call.now.length call.now.claim }
+    {
+        !call.flush
+            && call.length < self.capacity
+            && matches!(call.claim, Claim::Ok(m) if m == call.length)
+    }
+
+    // The flags at which these land, if the call's slice was stored. None if it was not.
+    fn stored(&self, call: &TracedCall) -> [bool; COUNTS]
+        ensures { Stored self.now.capacity call.now.flush call.now.length call.now.claim self.now.flags result }
+    {
+        let mut new = [false; COUNTS];
+        if self.stores(call) {
+            for (h, held) in self.flags.iter().enumerate() {
+                if *held {
+                    new[self.landing(call.length, h)] = true;
+                }
             }
         }
+        new
     }
-    new
+
+    // Whether the call can leave nothing held.
+    fn empties(&self, call: &TracedCall) -> bool
+        ensures { result ≡ empties self.now.capacity call.now.flush call.now.length call.now.claim }
+    {
+        if call.flush {
+            syncs(call.claim)
+        } else {
+            self.capacity <= call.length && directs(call.length, call.claim)
+        }
+    }
+
+    // Whether a stopped flush can leave any count from 1 to `most`, the highest that was held.
+    fn stops(&self, call: &TracedCall, most: usize) -> bool
+        requires { (most ≤ 1024) × (call.now.length ≤ 16384) }
+        ensures { result ≡ stops self.now.capacity call.now.flush call.now.length call.now.claim most }
+    {
+        halts(call.claim) && (call.flush || self.capacity < most + call.length)
+    }
+
+    // The counts after a call.
+    pub(crate) fn turn(&mut self, call: &TracedCall)
+        requires { call.now.length ≤ 16384 }
+        ensures capacity { self.new.capacity ≡ self.old.capacity }
+        ensures flags { Turned self.old.capacity call.now.flush call.now.length call.now.claim self.old.flags self.new.flags }
+    {
+        // An empty set stays empty.
+        let Some(most) = self.highest() else {
+            return;
+        };
+        self.flags = self.stored(call);
+        self.flags[0] |= self.empties(call);
+        if self.stops(call, most) {
+            self.flags[1..=most].fill(true);
+        }
+    }
 }
 
 // Whether a device write of n bytes can say this.
@@ -73,44 +129,9 @@ fn syncs(claim: Claim) -> bool
     matches!(claim, Claim::Done | Claim::Interrupted | Claim::Error(_))
 }
 
-// Whether the call can leave nothing held.
-fn empties(capacity: usize, call: &TracedCall) -> bool
-    ensures { result ≡ empties capacity call.now.flush call.now.length call.now.claim }
-{
-    if call.flush {
-        syncs(call.claim)
-    } else {
-        capacity <= call.length && directs(call.length, call.claim)
-    }
-}
-
 // Whether a flush of the buffer that is stopped can say this.
 fn halts(claim: Claim) -> bool
     ensures { result ≡ halts claim }
 {
     matches!(claim, Claim::Zero | Claim::Error(_))
-}
-
-// Whether a stopped flush can leave any count from 1 to `most`, the highest that was held.
-fn stops(capacity: usize, call: &TracedCall, most: usize) -> bool
-    requires { (most ≤ 1024) × (call.now.length ≤ 16384) }
-    ensures { result ≡ stops capacity call.now.flush call.now.length call.now.claim most }
-{
-    halts(call.claim) && (call.flush || capacity < most + call.length)
-}
-
-// The flags after a call, from those before it.
-pub(crate) fn turn(old: &Flags, capacity: usize, call: &TracedCall) -> Flags
-    requires { (capacity ≤ 1024) × (call.now.length ≤ 16384) }
-    ensures { Turned capacity call.now.flush call.now.length call.now.claim old.now result }
-{
-    let Some(most) = highest(old) else {
-        return [false; COUNTS];
-    };
-    let mut next = stored(old, capacity, call);
-    next[0] |= empties(capacity, call);
-    if stops(capacity, call, most) {
-        next[1..=most].fill(true);
-    }
-    next
 }

@@ -28,7 +28,7 @@ fn ruled(trace: &[u8], header: &Header) -> Verdict
         return Verdict::Impossible;
     };
     let held = answered.saturating_sub(header.length);
-    if flags::has(&walk::reach(trace, header), held) {
+    if walk::reach(trace, header).has(held) {
         Verdict::Possible
     } else {
         Verdict::Impossible

@@ -2,27 +2,26 @@
 ghost use Rattle.std.specs.Prelude.{◌≡◌, ◌+◌, ◌≤◌, length, take, drop, Decides};
 ghost use Rattle.judge.specs.Flags.{Reached, answers, OfTrace, Comparison};
 
-use crate::flags::{self, COUNTS, Flags};
+use crate::flags::Counts;
 use trace::{Claim, Header, TracedCall, calls};
 
-// The held counts that some replies could have left after all calls, as flags.
-pub(crate) fn reach(trace: &[u8], header: &Header) -> Flags
+// The counts that some replies could have left held after all calls.
+pub(crate) fn reach(trace: &[u8], header: &Header) -> Counts
     requires { header.now.capacity ≤ 1024 }
-    ensures { OfTrace trace.now header.now (λ calls card. Reached header.now.capacity calls result) }
+    ensures { OfTrace trace.now header.now (λ calls card. Reached header.now.capacity calls result.flags) }
 {
-    let mut set = [false; COUNTS];
-    set[0] = true;
+    let mut counts = Counts::new(header.capacity);
     let mut total = 0;
     let mut at = header.first;
     for _ in 0..header.count {
         let Ok(call) = calls::read_call(trace, total, at) else {
-            return set;
+            return counts;
         };
-        set = flags::turn(&set, header.capacity, &call);
+        counts.turn(&call);
         total += call.length;
         at = call.next;
     }
-    set
+    counts
 }
 
 // How many bytes a call's claim answers for.
