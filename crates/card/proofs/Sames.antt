@@ -12,6 +12,9 @@ use Rattle.laws.specs.Put.{put}
 use Rattle.card.specs.declared.limits.Refusal.{Refusal}
 use Rattle.card.specs.declared.limits.Refusal.TheVariants.{Capacity, Length, Peek, Seek, Device, State}
 use Rattle.card.specs.declared.Exchange.{Exchange}
+use Rattle.card.specs.declared.Failure.{Failure}
+use Rattle.card.specs.Answers.{Answer, said, said_count, said_done}
+use Rattle.card.proofs.Saids.{said_same}
 use Rattle.card.specs.Device.{Reply, at_most, exchange, moves}
 use Rattle.card.specs.Limits.{refusal_of, length_refusal, refusal_number, refusal_by}
 
@@ -55,6 +58,14 @@ read_one script used room stock taken r q = pasted_one (exchange (drop used scri
 
 pub flush_one : (script : List ℕ) (used : ℕ) (r q : Exchange) → r ≡ exchange (drop used script) used 0 → q ≡ exchange (drop used script) used 0 → r ≡ q
 flush_one script used = one (exchange (drop used script) used 0)
+
+-- ---- answers
+
+pub counted_one : (a : Result ℕ Failure) (r q : Answer) → said r ≡ said_count a → said q ≡ said_count a → r ≡ q
+counted_one a r q e f = said_same r q (e ∙ sym f)
+
+pub uncounted_one : (a : Result Unit Failure) (r q : Answer) → said r ≡ said_done a → said q ≡ said_done a → r ≡ q
+uncounted_one a r q e f = said_same r q (e ∙ sym f)
 
 -- ---- the limits
 

@@ -8,7 +8,7 @@ pub mod device;
 pub mod limits;
 
 ghost use Rattle.std.specs.Prelude.{◌≡◌};
-ghost use Rattle.card.specs.Answers.{failure_by};
+ghost use Rattle.card.specs.Answers.{said, said_count, said_done, failure_by};
 ghost use Rattle.card.specs.Limits.{refused_by};
 
 use limits::Refusal;
@@ -42,6 +42,19 @@ pub enum Failure {
 
 // What a public call answers: ok with a count, a bare ok, or a failure.
 pub type Answer = Result<Option<usize>, Failure>;
+
+// The answer of a call that counts, and of one that does not.
+pub fn counted(answer: Result<usize, Failure>) -> Answer
+    ensures { said result ≡ said_count answer }
+{
+    answer.map(Some)
+}
+
+pub fn uncounted(answer: Result<(), Failure>) -> Answer
+    ensures { said result ≡ said_done answer }
+{
+    answer.map(|()| None)
+}
 
 impl From<DeviceError> for Failure {
     ghost from_gives = { λ e f. f ≡ failure_by e };

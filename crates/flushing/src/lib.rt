@@ -21,6 +21,7 @@ pub struct State {
 }
 
 // A writer for one call: its state, what is lent with it, and how many device calls the call made.
+// The script is lent for a time of its own, since it is read while the medium is lent on.
 #[derive(Drop)]
 pub struct BufWriter<'a, 's> {
     pub state: State,
@@ -30,7 +31,25 @@ pub struct BufWriter<'a, 's> {
     pub calls: usize,
 }
 
-impl BufWriter<'_, '_> {
+impl<'a, 's> BufWriter<'a, 's> {
+    // In this state, with no device call made yet.
+    pub fn new(
+        state: State,
+        storage: &'a mut [u8],
+        script: &'s [u32],
+        medium: &'a mut [u8],
+    ) -> BufWriter<'a, 's>
+        ensures { result ≡ record { state = state; storage = storage.entry; script = script.entry; medium = medium.entry; calls = 0 } }
+    {
+        BufWriter {
+            state,
+            storage,
+            script,
+            medium,
+            calls: 0,
+        }
+    }
+
     // What the limits are asked of.
     pub fn numbers(&self) -> Numbers
         ensures { result ≡ numbers self.now }

@@ -48,7 +48,7 @@ reply_fails : (code : ℕ) → 0 < code → reply_of (fails code) ≡ Err (Error
 unfolding reply_of
 reply_fails code h =
     let less : 65536 + code - 65536 ≡ code = omega arith in
-    rw (lt-leb (65536 + code) 65535 (omega arith), ne_eqb (65536 + code) 65536 (omega arith)) (ap Error less)
+    rw (lt-leb (65536 + code) 65535 (omega arith), ne_eqb (65536 + code) 65536 (omega arith)) (ap (λ (k : ℕ). Err (Error k)) less)
 
 -- what is left of the script behind replies that were taken
 behind : (script p later : List ℕ) (used : ℕ) → drop used script ≡ p ++ later → drop (used + length p) script ≡ later

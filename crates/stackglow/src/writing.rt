@@ -1,34 +1,37 @@
 // The writer's calls. The state's numbers go in and out through `held`, `out` and `used`; `value`
-// and `calls` only go out, and what they had does not matter.
-ghost use Rattle.std.specs.Prelude.{◌≡◌, List, ℕ};
-ghost use Rattle.flushing.specs.World.{world_of, told, reported};
+// and `calls` only go out, and what they had does not matter. Each number is a parameter, and the
+// functions are alike, because C calls them so.
+ghost use Rattle.std.specs.Prelude.{◌≡◌};
+ghost use Rattle.card.specs.Answers.{said};
+ghost use Rattle.flushing.specs.World.{world_of, tells, reported};
 ghost use Rattle.flushing.specs.Flush.{flush_buf_call};
 ghost use Rattle.writer.specs.Writer.{write_call, write_all_call, flush_call};
 ghost use Rattle.stackglow.specs.Writing.{handed, state_of};
 
 use crate::answer;
-use flushing::{Answered, State, flush};
+use card::Answer;
+use flushing::{BufWriter, State};
 use writer::bufwriter;
 
 // What a call left, put where the caller looks for it; the answer's number is returned.
 pub fn hand(
-    a: Answered,
+    answer: Answer,
+    w: &BufWriter<'_, '_>,
     held: &mut usize,
     out: &mut usize,
     used: &mut usize,
     value: &mut usize,
     calls: &mut usize,
 ) -> u32
-    ensures { (storage medium : List ℕ) → record { number = result; value = value.new; calls = calls.new; held = held.new; out = out.new; used = used.new; storage = storage; medium = medium } ≡ handed (told a storage medium) }
+    ensures { record { number = result; value = value.new; calls = calls.new; held = held.new; out = out.new; used = used.new; storage = w.now.storage.now; medium = w.now.medium.now } ≡ handed (tells (said answer) w.now) }
 {
-    let said = a.answer;
-    let state = a.state;
+    let state = w.state;
     *held = state.held;
     *out = state.out;
     *used = state.used;
-    *value = answer::value(said);
-    *calls = a.calls;
-    answer::number(said)
+    *value = answer::value(answer);
+    *calls = w.calls;
+    answer::number(answer)
 }
 
 pub fn stackglow_flush_buf(
@@ -48,8 +51,9 @@ pub fn stackglow_flush_buf(
         out: *out,
         used: *used,
     };
-    let a = flush::flush_buf(state, storage, script, medium);
-    hand(a, held, out, used, value, calls)
+    let mut w = BufWriter::new(state, storage, script, medium);
+    let answer = card::uncounted(w.flush_buf());
+    hand(answer, &w, held, out, used, value, calls)
 }
 
 pub fn stackglow_write(
@@ -70,8 +74,9 @@ pub fn stackglow_write(
         out: *out,
         used: *used,
     };
-    let a = bufwriter::write(state, storage, script, medium, slice);
-    hand(a, held, out, used, value, calls)
+    let mut w = BufWriter::new(state, storage, script, medium);
+    let answer = card::counted(bufwriter::write(&mut w, slice));
+    hand(answer, &w, held, out, used, value, calls)
 }
 
 pub fn stackglow_write_all(
@@ -92,8 +97,9 @@ pub fn stackglow_write_all(
         out: *out,
         used: *used,
     };
-    let a = bufwriter::write_all(state, storage, script, medium, slice);
-    hand(a, held, out, used, value, calls)
+    let mut w = BufWriter::new(state, storage, script, medium);
+    let answer = card::uncounted(bufwriter::write_all(&mut w, slice));
+    hand(answer, &w, held, out, used, value, calls)
 }
 
 pub fn stackglow_flush(
@@ -113,6 +119,7 @@ pub fn stackglow_flush(
         out: *out,
         used: *used,
     };
-    let a = bufwriter::flush(state, storage, script, medium);
-    hand(a, held, out, used, value, calls)
+    let mut w = BufWriter::new(state, storage, script, medium);
+    let answer = card::uncounted(bufwriter::flush(&mut w));
+    hand(answer, &w, held, out, used, value, calls)
 }

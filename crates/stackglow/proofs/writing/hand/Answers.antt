@@ -3,4 +3,4 @@ use Rattle.stackglow.proofs.Handing.{writing}
 use Rattle.stackglow.proofs.writing.hand.Goals as goal
 
 pub returns : goal.returns
-returns c storage medium = writing c.args.a _ _ storage medium c.number.ensures c.value.ensures
+returns c = writing _ c.args.w.now _ _ c.number.ensures c.value.ensures
