@@ -9,9 +9,13 @@ use lib.Seq.{take_all}
 use borrow.Author.Tests.{eq-eqb, ne_eqb}
 use Rattle.laws.specs.Put.{put}
 use Rattle.card.specs.Limits.{bytes_most}
-use Rattle.flushing.specs.World as Writer
-use Rattle.reader.specs.World.{world}
-use Rattle.reader.specs.Buffer as Reader
+use Rattle.flushing.specs.declared.State.{State}
+use Rattle.flushing.specs.declared.BufWriter.{BufWriter}
+use Rattle.flushing.specs.World.{World, world, world_of, fresh, new}
+use Rattle.reader.specs.declared.State.{State as ReaderState}
+use Rattle.reader.specs.declared.BufReader.{BufReader}
+use Rattle.reader.specs.World as Reader
+use Rattle.reader.specs.Buffer as Buffer
 use Rattle.std.specs.Prelude.{Result, Ok, Err}
 use Rattle.numbers.specs.declared.Fault.{Fault}
 use Rattle.trace.specs.Trace.{trace_of}
@@ -42,47 +46,55 @@ module _ (t : List ℕ) (header : Header) (script : List ℕ) (g : Ready t heade
   capacity_in = (whole t header script g.stock g.calls g.is).capacity_within
 
   module _ (page after : Page) where
-    pub write_lines : Lines t header.kind header.count header.first (λ w call. writer_step header.kind script w call) writer_ends (Writer.new (take header.capacity (replicate 1024 0)) (replicate 16384 0)) page after → Lines t header.kind header.count header.first (λ w call. writer_step header.kind script w call) writer_ends (Writer.new (replicate header.capacity 0) (replicate bytes_most 0)) page after
-    write_lines l =
+    pub write_lines : (w : BufWriter) (state : State) → world w ≡ world_of state (take header.capacity (replicate 1024 0)) (replicate 16384 0) → w.script.now ≡ script → state ≡ fresh → Lines t header.kind header.count header.first (λ v call. writer_step header.kind w.script.now v call) writer_ends (world w) page after → Lines t header.kind header.count header.first (λ v call. writer_step header.kind script v call) writer_ends (new (replicate header.capacity 0) (replicate bytes_most 0)) page after
+    write_lines w state e q f l =
+        let is : world w ≡ new (replicate header.capacity 0) (replicate bytes_most 0) =
+        e
+        ∙ ap (λ (s : State). world_of s (take header.capacity (replicate 1024 0)) (replicate 16384 0)) f
+        ∙ ap (λ (st : List ℕ). new st (replicate bytes_most 0)) (take-replicate header.capacity 1024 0 capacity_in) in
         record {
-          prints = λ calls end q.
-              l.prints calls end q
-              ∙ ap (λ (st : List ℕ). written page (lines_of (λ w call. writer_step header.kind script w call) writer_ends (Writer.new st (replicate bytes_most 0)) calls)) (take-replicate header.capacity 1024 0 capacity_in);
+          prints = λ calls end p.
+              l.prints calls end p
+              ∙ ap₂ (λ (x : List ℕ) (u : World). written page (lines_of (λ v call. writer_step header.kind x v call) writer_ends u calls)) q is;
         }
 
-    pub read_lines : (stock : List ℕ) → stock ≡ take header.length (drop header.stock t) → Lines t 2 header.count header.first (λ w call. reader_step script stock w call) reader_ends (world (take header.capacity (replicate 1024 0)) Reader.new) page after → Lines t 2 header.count header.first (λ w call. reader_step script (take header.length (drop header.stock t)) w call) reader_ends (world (replicate header.capacity 0) Reader.new) page after
-    read_lines stock e l =
+    pub read_lines : (r : BufReader) (state : ReaderState) (stock : List ℕ) → Reader.world_of r ≡ Reader.world (take header.capacity (replicate 1024 0)) state → r.script.now ≡ script → r.stock.now ≡ stock → stock ≡ take header.length (drop header.stock t) → state ≡ Buffer.new → Lines t 2 header.count header.first (λ w call. reader_step r.script.now r.stock.now w call) reader_ends (Reader.world_of r) page after → Lines t 2 header.count header.first (λ w call. reader_step script (take header.length (drop header.stock t)) w call) reader_ends (Reader.world (replicate header.capacity 0) Buffer.new) page after
+    read_lines r state stock e q u k f l =
+        let is : Reader.world_of r ≡ Reader.world (replicate header.capacity 0) Buffer.new =
+        e
+        ∙ ap₂ (λ (st : List ℕ) (s : ReaderState). Reader.world st s) (take-replicate header.capacity 1024 0 capacity_in) f in
         record {
-          prints = λ calls end q.
-              l.prints calls end q
-              ∙ ap₂ (λ (k st : List ℕ). written page (lines_of (λ w call. reader_step script k w call) reader_ends (world st Reader.new) calls)) e (take-replicate header.capacity 1024 0 capacity_in);
+          prints = λ calls end p.
+              l.prints calls end p
+              ∙ ap₂ (λ (x : List ℕ) (y : List ℕ). written page (lines_of (λ w call. reader_step x y w call) reader_ends (Reader.world_of r) calls)) q (u ∙ k)
+              ∙ ap (λ (z : Reader.World). written page (lines_of (λ w call. reader_step script (take header.length (drop header.stock t)) w call) reader_ends z calls)) is;
         }
 
   -- the session line is printed first, and then the calls' lines
   module _ (page mid after : Page) (first : mid ≡ written page (session_line header.kind header.capacity)) where
-    pub text_write : (header.kind ≡ 2 → ⊥) → Lines t header.kind header.count header.first (λ w call. writer_step header.kind script w call) writer_ends (Writer.new (replicate header.capacity 0) (replicate bytes_most 0)) mid after → Prints (session_of t) page after
+    pub text_write : (header.kind ≡ 2 → ⊥) → Lines t header.kind header.count header.first (λ w call. writer_step header.kind script w call) writer_ends (new (replicate header.capacity 0) (replicate bytes_most 0)) mid after → Prints (session_of t) page after
     unfolding writer_text
     text_write k l =
         let w = whole t header script g.stock g.calls g.is in
-        let lines : List ℕ = lines_of (λ w call. writer_step header.kind script w call) writer_ends (Writer.new (replicate header.capacity 0) (replicate bytes_most 0)) g.calls in
+        let lines : List ℕ = lines_of (λ w call. writer_step header.kind script w call) writer_ends (new (replicate header.capacity 0) (replicate bytes_most 0)) g.calls in
         record {
           text = writer_text header.kind header.capacity script g.calls;
           right = rw g.is (rw (ne_eqb header.kind 2 k) refl);
           is = l.prints g.calls (length t) w.from ∙ ap (λ (p : Page). written p lines) first ∙ then page (session_line header.kind header.capacity) lines;
         }
 
-    pub text_read : header.kind ≡ 2 → Lines t 2 header.count header.first (λ w call. reader_step script (take header.length (drop header.stock t)) w call) reader_ends (world (replicate header.capacity 0) Reader.new) mid after → Prints (session_of t) page after
+    pub text_read : header.kind ≡ 2 → Lines t 2 header.count header.first (λ w call. reader_step script (take header.length (drop header.stock t)) w call) reader_ends (Reader.world (replicate header.capacity 0) Buffer.new) mid after → Prints (session_of t) page after
     unfolding reader_text
     text_read k l =
         let w = whole t header script g.stock g.calls g.is in
         let from = rw k at w.from in
-        let lines : List ℕ = lines_of (λ w call. reader_step script g.stock w call) reader_ends (world (replicate header.capacity 0) Reader.new) g.calls in
+        let lines : List ℕ = lines_of (λ w call. reader_step script g.stock w call) reader_ends (Reader.world (replicate header.capacity 0) Buffer.new) g.calls in
         record {
           text = reader_text header.capacity script g.stock g.calls;
           right = rw g.is (rw (eq-eqb header.kind 2 k) refl);
           is =
               l.prints g.calls (length t) from
-              ∙ ap (λ (stock : List ℕ). written mid (lines_of (λ w call. reader_step script stock w call) reader_ends (world (replicate header.capacity 0) Reader.new) g.calls)) (sym w.stock_is)
+              ∙ ap (λ (stock : List ℕ). written mid (lines_of (λ w call. reader_step script stock w call) reader_ends (Reader.world (replicate header.capacity 0) Buffer.new) g.calls)) (sym w.stock_is)
               ∙ ap (λ (p : Page). written p lines) first
               ∙ then page (session_line header.kind header.capacity) lines
               ∙ ap (λ (n : ℕ). written page (session_line n header.capacity ++ lines)) k;

@@ -16,9 +16,12 @@ ghost use Rattle.session.specs.Session.{Ruled, Shown};
 ghost use Rattle.form.specs.Session.{session_of};
 
 use card::limits::{BYTES_MOST, CAPACITY_MOST, SCRIPT_MOST};
+use flushing::BufWriter;
 use form::{Checked, Header, replies, whole};
 use judge::Verdict;
+use reader::{BufReader, State};
 use text::Page;
+use writer::bufwriter;
 
 // The n bytes from a start on, or as many as there are.
 fn part(bytes: &[u8], start: usize, n: usize) -> &[u8]
@@ -34,15 +37,10 @@ fn write_calls(session: &[u8], header: Header, script: &[u32], page: &mut Page<'
     ensures { Lines session.now header.kind header.count header.first (λ w call. writer_step header.kind script.now w call) writer_ends (Writer.new (replicate header.capacity 0) (replicate bytes_most 0)) page.old page.new }
 {
     let mut storage = [0u8; CAPACITY_MOST];
+    let storage = &mut storage[..header.capacity];
     let mut medium = [0u8; BYTES_MOST];
-    writing::run(
-        session,
-        header,
-        script,
-        &mut storage[..header.capacity],
-        &mut medium,
-        page,
-    );
+    let mut w = BufWriter::new(bufwriter::new(), storage, script, &mut medium);
+    writing::run(session, header, &mut w, page);
 }
 
 // A reader's calls, on storage of zeros.
@@ -51,15 +49,10 @@ fn read_calls(session: &[u8], header: Header, script: &[u32], page: &mut Page<'_
     ensures { Lines session.now 2 header.count header.first (λ w call. reader_step script.now (take header.length (drop header.stock session.now)) w call) reader_ends (world (replicate header.capacity 0) Reader.new) page.old page.new }
 {
     let mut storage = [0u8; CAPACITY_MOST];
+    let storage = &mut storage[..header.capacity];
     let stock = part(session, header.stock, header.length);
-    reading::run(
-        session,
-        header,
-        script,
-        stock,
-        &mut storage[..header.capacity],
-        page,
-    );
+    let mut r = BufReader::new(State::new(), storage, script, stock);
+    reading::run(session, header, &mut r, page);
 }
 
 // The session line, the calls and the end line.
