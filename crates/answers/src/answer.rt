@@ -1,14 +1,6 @@
 // A call's answer as numbers and bytes.
-use card::Answer;
+use card::{Answer, Failure};
 use text::Page;
-
-// The count of an ok; 0 of every other answer.
-pub(crate) fn count(answer: Answer) -> usize {
-    match answer {
-        Answer::Ok(n) => n,
-        _ => 0,
-    }
-}
 
 // 32 bits of a number, lowest byte first.
 pub(crate) fn number(page: &mut Page<'_>, n: usize) {
@@ -18,13 +10,13 @@ pub(crate) fn number(page: &mut Page<'_>, n: usize) {
 // The first three numbers of every answer.
 pub(crate) fn put(page: &mut Page<'_>, answer: Answer, calls: usize) {
     let (kind, value) = match answer {
-        Answer::Ok(n) => (0, n),
-        Answer::Done => (1, 0),
-        Answer::Interrupted => (2, 0),
-        Answer::Zero => (3, 0),
-        Answer::Whole => (4, 0),
-        Answer::Error(code) => (5, code as usize),
-        Answer::Refused(refusal) => (6, refusal as usize),
+        Ok(Some(n)) => (0, n),
+        Ok(None) => (1, 0),
+        Err(Failure::Interrupted) => (2, 0),
+        Err(Failure::Zero) => (3, 0),
+        Err(Failure::Whole) => (4, 0),
+        Err(Failure::Error(code)) => (5, code as usize),
+        Err(Failure::Refused(refusal)) => (6, refusal as usize),
     };
     number(page, kind);
     number(page, value);

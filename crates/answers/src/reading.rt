@@ -2,10 +2,10 @@
 use crate::answer;
 use crate::request::Request;
 use card::limits::{BYTES_MOST, CAPACITY_MOST, SCRIPT_MOST};
-use reader::State;
+use card::{counted, uncounted};
+use reader::{BufReader, State};
 use text::Page;
 
-#[derive(Clone, Copy)]
 enum Call {
     Read,
     Peek,
@@ -58,28 +58,32 @@ pub(crate) fn answer(request: &[u8], output: &mut [u8]) -> usize {
         taken,
         used,
     };
-    let a = match call {
-        Call::Read => reader::read(storage, script, stock, state, destination),
-        Call::Peek => reader::peek(storage, script, stock, state, size as usize),
-        Call::Consume => reader::consume(storage, script, stock, state, size as usize),
-        Call::Seek => reader::seek_relative(storage, script, stock, state, size.cast_signed()),
-        Call::Fill | Call::Other => reader::fill_buf(storage, script, stock, state),
-    };
-    let shown = match call {
-        Call::Peek | Call::Fill => answer::count(a.answer),
-        _ => 0,
+    let mut r = BufReader::new(state, storage, script, stock);
+    let (answer, shown) = match call {
+        Call::Read => (counted(r.read(destination)), 0),
+        Call::Peek => {
+            let answer = r.peek(size as usize);
+            (counted(answer), answer.unwrap_or(0))
+        }
+        Call::Consume => (uncounted(r.consume(size as usize)), 0),
+        Call::Seek => (uncounted(r.seek_relative(size.cast_signed())), 0),
+        Call::Fill => {
+            let answer = r.fill_buf();
+            (counted(answer), answer.unwrap_or(0))
+        }
+        Call::Other => (counted(r.fill_buf()), 0),
     };
     let mut page = Page {
         bytes: output,
         at: 0,
     };
-    answer::put(&mut page, a.answer, a.calls);
-    answer::number(&mut page, a.state.pos);
-    answer::number(&mut page, a.state.filled);
-    answer::number(&mut page, a.state.used);
-    answer::number(&mut page, a.state.taken);
-    page.say(storage);
+    answer::put(&mut page, answer, r.calls);
+    answer::number(&mut page, r.state.pos);
+    answer::number(&mut page, r.state.filled);
+    answer::number(&mut page, r.state.used);
+    answer::number(&mut page, r.state.taken);
+    page.say(r.storage);
     page.say(destination);
-    page.say(reader::peeked(storage, a.state, shown));
+    page.say(r.peeked(shown));
     page.at
 }

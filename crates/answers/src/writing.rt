@@ -2,12 +2,12 @@
 use crate::answer;
 use crate::request::Request;
 use card::limits::{BYTES_MOST, CAPACITY_MOST, SCRIPT_MOST};
-use flushing::{State, flush};
+use card::{counted, uncounted};
+use flushing::{BufWriter, State};
 use line::linewriter;
 use text::Page;
 use writer::bufwriter;
 
-#[derive(Clone, Copy)]
 enum Call {
     Write,
     WriteAll,
@@ -51,23 +51,24 @@ pub(crate) fn answer(request: &[u8], output: &mut [u8]) -> usize {
     let out = request.number();
     let slice = request.bytes();
     let state = State { held, out, used };
-    let a = match call {
-        Call::Write => bufwriter::write(state, storage, script, medium, slice),
-        Call::WriteAll => bufwriter::write_all(state, storage, script, medium, slice),
-        Call::Flush => bufwriter::flush(state, storage, script, medium),
-        Call::FlushBuf => flush::flush_buf(state, storage, script, medium),
-        Call::LineWrite => linewriter::write(state, storage, script, medium, slice),
-        Call::LineWriteAll => linewriter::write_all(state, storage, script, medium, slice),
+    let mut w = BufWriter::new(state, storage, script, medium);
+    let answer = match call {
+        Call::Write => counted(bufwriter::write(&mut w, slice)),
+        Call::WriteAll => uncounted(bufwriter::write_all(&mut w, slice)),
+        Call::Flush => uncounted(bufwriter::flush(&mut w)),
+        Call::FlushBuf => uncounted(w.flush_buf()),
+        Call::LineWrite => counted(linewriter::write(&mut w, slice)),
+        Call::LineWriteAll => uncounted(linewriter::write_all(&mut w, slice)),
     };
     let mut page = Page {
         bytes: output,
         at: 0,
     };
-    answer::put(&mut page, a.answer, a.calls);
-    answer::number(&mut page, a.state.held);
-    answer::number(&mut page, a.state.out);
-    answer::number(&mut page, a.state.used);
-    page.say(storage);
-    page.say(medium);
+    answer::put(&mut page, answer, w.calls);
+    answer::number(&mut page, w.state.held);
+    answer::number(&mut page, w.state.out);
+    answer::number(&mut page, w.state.used);
+    page.say(w.storage);
+    page.say(w.medium);
     page.at
 }
