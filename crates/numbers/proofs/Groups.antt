@@ -123,3 +123,6 @@ module _ {bytes : List ℕ} {at groups top place left weight value : ℕ} (t : T
 pub cut : {bytes : List ℕ} {at groups top place left weight value : ℕ} → Turn bytes at groups top place left weight value → length bytes ≤ place → fault_at (length bytes) ≡ number_of groups top bytes at
 unfolding groups_from
 cut {bytes} t h = rw t.same (rw (drop_of_length-le bytes h) refl)
+
+-- what closes the loop's goals
+pub ruleset turns = (start, over, long, finish, cut, fits)

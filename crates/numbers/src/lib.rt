@@ -18,6 +18,7 @@ const GROUPS: usize = 5;
 const TOP: usize = 15;
 
 // A number of at most `groups` groups, the last of these at most `top`, and the place after it.
+#[tactic(auto, using(crate::proofs::Groups::turns))]
 fn read_groups(bytes: &[u8], at: usize, groups: usize, top: usize) -> Result<(usize, usize), Fault>
     requires { Width groups top }
     ensures { result ≡ number_of groups top bytes.now at }
