@@ -1,8 +1,8 @@
 -- A call's turn of the flags is the table's.
 -- Assumes nothing.
-use mathlib.Core.Path.{◌≡◌, refl, sym, ◌∙◌, subst}
+use mathlib.Core.Path.{◌≡◌, refl, sym, ◌∙◌}
 use mathlib.Core.Logic.{◌↔◌, ◌⊎◌, inl, inr, ⊎_elim}
-use mathlib.Core.Bool.{Bool, true, false, ◌||◌}
+use mathlib.Core.Bool.{Bool, true, false, ◌&&◌, ◌||◌}
 use mathlib.Core.List.{List}
 use Prim.Native.Nat.{ℕ, ◌+◌, ◌-◌, ◌<◌}
 use native.Mathlib.Omega.{arith}
@@ -10,13 +10,15 @@ use lib.ListN.{length, get_or, set, take, drop, replicate, length-set}
 use borrow.Rule.Slice.PartMut.{put_mid}
 use lib.Dec.{leb, ltb}
 use Rattle.std.proofs.lemmas.Bool.Decides.{nat_tests}
-use Rattle.std.proofs.lemmas.Bool.{ltb-true, leb-true, and_parts, false≢true}
+use Rattle.std.proofs.lemmas.Bool.{ltb-true, lt-ltb, and_from, leb-true, and_parts, false≢true}
+use Rattle.laws.specs.Pick.{pick}
 use Rattle.card.specs.Answers.{ok}
+use Rattle.trace.specs.declared.TracedCall.{TracedCall}
 use Rattle.trace.specs.declared.Claim.{Claim}
 use Rattle.trace.specs.declared.Claim.TheVariants.{Ok, Done, Interrupted, Zero, Error}
 use Rattle.trace.specs.Claims.{claimed}
 use Rattle.judge.specs.Table.{Direct, Synced, Stopped, WriteStep, FlushStep}
-use Rattle.judge.specs.Flags.{Has, Highest, landing, Lands, Between, stores, Stored, directs, syncs, empties, halts, stops, StepOf, Leads, Turned}
+use Rattle.judge.specs.Flags.{Has, Highest, landing, Lands, Between, whole, stores, Stored, directs, syncs, empties, halts, stops, StepOf, Leads, Turned}
 use Rattle.judge.proofs.Sets.{has_within, none_set, has_first, has_filled, landing_most, land_more}
 
 -- ---- claims and the answers of the table
@@ -52,98 +54,103 @@ halts_of : (claim : Claim) → Stopped (claimed claim) → halts claim ≡ true
 halts_of claim s = grind arith
 
 -- a write that is stored claims its length
-stores_of : (C n : ℕ) (claim : Claim) → n < C → claimed claim ≡ ok n → stores C false n claim ≡ true
-stores_of C n claim h e = grind (arith, nat_tests)
+stores_of : (C : ℕ) (call : TracedCall) → call.flush ≡ false → call.length < C → claimed call.claim ≡ ok call.length → stores C call ≡ true
+stores_of C call f h e = rw f (and_from _ _ (lt-ltb call.length C h) (by call.claim e))
+  where
+    by : (c : Claim) → claimed c ≡ ok call.length → whole call.length c ≡ true
+    by c q = grind (arith, nat_tests)
 
-pub record Stores (C : ℕ) (flush : Bool) (n : ℕ) (claim : Claim) : Type 0 where
-  pub is_write : flush ≡ false
-  pub short : n < C
-  pub says : claimed claim ≡ ok n
+pub record Stores (C : ℕ) (call : TracedCall) : Type 0 where
+  pub is_write : call.flush ≡ false
+  pub short : call.length < C
+  pub says : claimed call.claim ≡ ok call.length
 
-stores_says : (C : ℕ) (flush : Bool) (n : ℕ) (claim : Claim) → stores C flush n claim ≡ true → Stores C flush n claim
-stores_says C flush n claim h = grind (arith, nat_tests)
+stores_says : (C : ℕ) (call : TracedCall) → stores C call ≡ true → Stores C call
+stores_says C call h = grind (arith, nat_tests)
 
 -- one flag more lands, within the capacity
-pub stored_more : (C : ℕ) (flush : Bool) (n : ℕ) (claim : Claim) (h at : ℕ) (old l : List Bool) → true ≡ stores C flush n claim → C < length l → ((k : ℕ) → Has l k ↔ Lands C n h old k) → at ≡ landing C n h → get_or old h false ≡ true → (k : ℕ) → Has (set l at true) k ↔ Lands C n (h + 1) old k
-stored_more C flush n claim h at old l e f i q x = land_more C n h old l i at q x (omega (arith, landing_most C n h (stores_says C flush n claim (sym e)).short))
+pub stored_more : (C : ℕ) (call : TracedCall) (h at : ℕ) (old l : List Bool) → true ≡ stores C call → C < length l → ((k : ℕ) → Has l k ↔ Lands C call.length h old k) → at ≡ landing C call.length h → get_or old h false ≡ true → (k : ℕ) → Has (set l at true) k ↔ Lands C call.length (h + 1) old k
+stored_more C call h at old l e f i q x = land_more C call.length h old l i at q x (omega (arith, landing_most C call.length h (stores_says C call (sym e)).short))
 
 -- where nothing is stored no flag lands
-pub none_stored : (C : ℕ) (flush : Bool) (n : ℕ) (claim : Claim) (m : ℕ) (old : List Bool) → false ≡ stores C flush n claim → Stored C flush n claim old (replicate m false)
-none_stored C flush n claim m old e = record { at = λ k. ((λ x. absurd (none_set m k x)), (λ p. absurd (false≢true (e ∙ p.0)))) }
+pub none_stored : (C : ℕ) (call : TracedCall) (m : ℕ) (old : List Bool) → false ≡ stores C call → Stored C call old (replicate m false)
+none_stored C call m old e = record { at = λ k. ((λ x. absurd (none_set m k x)), (λ p. absurd (false≢true (e ∙ p.0)))) }
 
 -- ---- each kind of flag comes from the table, and the table has no other
 
-pub Kinds : ℕ → Bool → ℕ → Claim → List Bool → ℕ → ℕ → Type 0
-Kinds C flush n claim old most k =
-    (((stores C flush n claim ≡ true) × Lands C n (length old) old k) ⊎ ((empties C flush n claim ≡ true) × (k ≡ 0)))
-    ⊎ ((stops C flush n claim most ≡ true) × Between 1 most k)
+pub Kinds : ℕ → TracedCall → List Bool → ℕ → ℕ → Type 0
+Kinds C call old most k =
+    (((stores C call ≡ true) × Lands C call.length (length old) old k) ⊎ ((empties C call ≡ true) × (k ≡ 0)))
+    ⊎ ((stops C call most ≡ true) × Between 1 most k)
 
 -- from a flag that lands
-land_step : (C : ℕ) (flush : Bool) (n : ℕ) (claim : Claim) (h k : ℕ) → stores C flush n claim ≡ true → landing C n h ≡ k → StepOf C h flush n claim k
-land_step C flush n claim h k e q =
-    let s = stores_says C flush n claim e in
-    subst (λ (b : Bool). StepOf C h b n claim k) (sym s.is_write) (by s.short s.says)
+land_step : (C : ℕ) (call : TracedCall) (h k : ℕ) → stores C call ≡ true → landing C call.length h ≡ k → StepOf C h call k
+land_step C call h k e q =
+    let s = stores_says C call e in
+    rw s.is_write (by s.short s.says)
   where
-    by : n < C → claimed claim ≡ ok n → WriteStep C h n (claimed claim) k
+    by : call.length < C → claimed call.claim ≡ ok call.length → WriteStep C h call.length (claimed call.claim) k
     by a b = grind (arith, nat_tests, WriteStep.stored, WriteStep.refilled)
 
 -- nothing held
-empty_step : (C : ℕ) (flush : Bool) (n : ℕ) (claim : Claim) (h k : ℕ) → empties C flush n claim ≡ true → k ≡ 0 → StepOf C h flush n claim k
-empty_step C true n claim h k e z = FlushStep.emptied (synced_of claim e) z
-empty_step C false n claim h k e z =
-    let x = and_parts (leb C n) (directs n claim) e in
-    WriteStep.direct (leb-true C n x.0) (direct_of n claim x.1) z
+empty_step : (C : ℕ) (call : TracedCall) (h k : ℕ) → empties C call ≡ true → k ≡ 0 → StepOf C h call k
+empty_step C call h k e z = by call.flush e
+  where
+    by : (b : Bool) → pick b (syncs call.claim) (leb C call.length && directs call.length call.claim) ≡ true → pick b (FlushStep h (claimed call.claim) k) (WriteStep C h call.length (claimed call.claim) k)
+    by true q = FlushStep.emptied (synced_of call.claim q) z
+    by false q =
+        let x = and_parts (leb C call.length) (directs call.length call.claim) q in
+        WriteStep.direct (leb-true C call.length x.0) (direct_of call.length call.claim x.1) z
 
 -- a stopped flush
-stop_step : (C : ℕ) (flush : Bool) (n : ℕ) (claim : Claim) (most k : ℕ) → stops C flush n claim most ≡ true → Between 1 most k → StepOf C most flush n claim k
-stop_step C true n claim most k e p = FlushStep.stopped (stopped_of claim (and_parts (halts claim) _ e).0) (omega (arith, p.least)) p.most
-stop_step C false n claim most k e p =
-    let x = and_parts (halts claim) (ltb C (most + n)) e in
-    WriteStep.stopped (ltb-true C (most + n) x.1) (stopped_of claim x.0) (omega (arith, p.least)) p.most
+stop_step : (C : ℕ) (call : TracedCall) (most k : ℕ) → stops C call most ≡ true → Between 1 most k → StepOf C most call k
+stop_step C call most k e p = by call.flush (and_parts (halts call.claim) _ e).1
+  where
+    stopped : Stopped (claimed call.claim)
+    stopped = stopped_of call.claim (and_parts (halts call.claim) _ e).0
 
-kinds_lead : (C : ℕ) (flush : Bool) (n : ℕ) (claim : Claim) (old : List Bool) (most k : ℕ) → Highest old most → Kinds C flush n claim old most k → Leads C flush n claim old k
+    by : (b : Bool) → (b || ltb C (most + call.length)) ≡ true → pick b (FlushStep most (claimed call.claim) k) (WriteStep C most call.length (claimed call.claim) k)
+    by true q = FlushStep.stopped stopped (omega (arith, p.least)) p.most
+    by false q = WriteStep.stopped (ltb-true C (most + call.length) q) stopped (omega (arith, p.least)) p.most
+
+kinds_lead : (C : ℕ) (call : TracedCall) (old : List Bool) (most k : ℕ) → Highest old most → Kinds C call old most k → Leads C call old k
 unfolding Kinds
-kinds_lead C flush n claim old most k t =
+kinds_lead C call old most k t =
     ⊎_elim
-    (⊎_elim (λ x. record { from = x.1.from; set = x.1.set; step = land_step C flush n claim x.1.from k x.0 x.1.lands }) (λ x. record { from = most; set = t.set; step = empty_step C flush n claim most k x.0 x.1 }))
-    (λ x. record { from = most; set = t.set; step = stop_step C flush n claim most k x.0 x.1 })
+    (⊎_elim (λ x. record { from = x.1.from; set = x.1.set; step = land_step C call x.1.from k x.0 x.1.lands }) (λ x. record { from = most; set = t.set; step = empty_step C call most k x.0 x.1 }))
+    (λ x. record { from = most; set = t.set; step = stop_step C call most k x.0 x.1 })
 
-leads_kinds : (C : ℕ) (flush : Bool) (n : ℕ) (claim : Claim) (old : List Bool) (most k h : ℕ) → Highest old most → Has old h → StepOf C h flush n claim k → Kinds C flush n claim old most k
+leads_kinds : (C : ℕ) (call : TracedCall) (old : List Bool) (most k h : ℕ) → Highest old most → Has old h → StepOf C h call k → Kinds C call old most k
 unfolding Kinds
-leads_kinds C flush n claim old most k h t x s = grind (arith, nat_tests, has_within old h x, t.above h x, syncs_of, directs_of, halts_of, stores_of)
+leads_kinds C call old most k h t x s = grind (arith, nat_tests, has_within old h x, t.above h x, syncs_of, directs_of, halts_of, stores_of C call)
 
 -- ---- a turn
 
 -- without a flag nothing follows
-pub none_turned : (C : ℕ) (flush : Bool) (n : ℕ) (claim : Claim) (old : List Bool) → ((k : ℕ) → Has old k → ⊥) → Turned C flush n claim old old
-none_turned C flush n claim old none = record { at = λ k. ((λ x. absurd (none k x)), (λ x. absurd (none x.from x.set))) }
+pub none_turned : (C : ℕ) (call : TracedCall) (old : List Bool) → ((k : ℕ) → Has old k → ⊥) → Turned C call old old
+none_turned C call old none = record { at = λ k. ((λ x. absurd (none k x)), (λ x. absurd (none x.from x.set))) }
 
-turned : (C : ℕ) (flush : Bool) (n : ℕ) (claim : Claim) (old new : List Bool) (most : ℕ) → Highest old most → ((k : ℕ) → Has new k ↔ Kinds C flush n claim old most k) → Turned C flush n claim old new
-turned C flush n claim old new most t i =
-    record {
-      at = λ k. (
-        (λ x. kinds_lead C flush n claim old most k t ((i k).0 x)),
-        (λ x. (i k).1 (leads_kinds C flush n claim old most k x.from t x.set x.step)),
-      );
-    }
+turned : (C : ℕ) (call : TracedCall) (old new : List Bool) (most : ℕ) → Highest old most → ((k : ℕ) → Has new k ↔ Kinds C call old most k) → Turned C call old new
+turned C call old new most t i =
+    record { at = λ k. ((λ x. kinds_lead C call old most k t ((i k).0 x)), (λ x. (i k).1 (leads_kinds C call old most k x.from t x.set x.step))) }
 
-module _ (C : ℕ) (flush : Bool) (n : ℕ) (claim : Claim) (old a : List Bool) (most : ℕ) (b : Bool) (t : Highest old most) (s : Stored C flush n claim old a) (e : b ≡ empties C flush n claim) (l : length a ≡ 1025) (m : length old ≡ 1025) where
+module _ (C : ℕ) (call : TracedCall) (old a : List Bool) (most : ℕ) (b : Bool) (t : Highest old most) (s : Stored C call old a) (e : b ≡ empties C call) (l : length a ≡ 1025) (m : length old ≡ 1025) where
   -- the flags of what is stored, and that of nothing held
-  two_kinds : (k : ℕ) → Has (set a 0 (get_or a 0 false || b)) k ↔ (((stores C flush n claim ≡ true) × Lands C n (length old) old k) ⊎ ((empties C flush n claim ≡ true) × (k ≡ 0)))
+  two_kinds : (k : ℕ) → Has (set a 0 (get_or a 0 false || b)) k ↔ (((stores C call ≡ true) × Lands C call.length (length old) old k) ⊎ ((empties C call ≡ true) × (k ≡ 0)))
   two_kinds k =
       let f = has_first a b k (omega arith) in (
         (λ x. ⊎_elim (λ y. inl ((s.at k).0 y)) (λ y. inr (sym e ∙ y.0, y.1)) (f.0 x)),
         ⊎_elim (λ y. f.1 (inl ((s.at k).1 y))) (λ y. f.1 (inr (e ∙ y.0, y.1))),
       )
 
-  pub turned_no_stop : false ≡ stops C flush n claim most → Turned C flush n claim old (set a 0 (get_or a 0 false || b))
+  pub turned_no_stop : false ≡ stops C call most → Turned C call old (set a 0 (get_or a 0 false || b))
   unfolding Kinds
-  turned_no_stop q = turned C flush n claim old _ most t (λ k. ((λ x. inl ((two_kinds k).0 x)), ⊎_elim (λ y. (two_kinds k).1 y) (λ y. absurd (false≢true (q ∙ y.0)))))
+  turned_no_stop q = turned C call old _ most t (λ k. ((λ x. inl ((two_kinds k).0 x)), ⊎_elim (λ y. (two_kinds k).1 y) (λ y. absurd (false≢true (q ∙ y.0)))))
 
-  pub turned_stop : (ys : List Bool) → true ≡ stops C flush n claim most → ys ≡ replicate (length (take (most + 1 - 1) (drop 1 (set a 0 (get_or a 0 false || b))))) true → Turned C flush n claim old (put_mid 1 (most + 1 - 1) (set a 0 (get_or a 0 false || b)) ys)
+  pub turned_stop : (ys : List Bool) → true ≡ stops C call most → ys ≡ replicate (length (take (most + 1 - 1) (drop 1 (set a 0 (get_or a 0 false || b))))) true → Turned C call old (put_mid 1 (most + 1 - 1) (set a 0 (get_or a 0 false || b)) ys)
   unfolding Kinds
   turned_stop ys q f =
-      turned C flush n claim old _ most t
+      turned C call old _ most t
       (λ k.
       let h = has_filled (set a 0 (get_or a 0 false || b)) ys most k (omega (arith, length-set a 0 (get_or a 0 false || b), has_within old most t.set)) f in (
         (λ x. ⊎_elim (λ y. inl ((two_kinds k).0 y)) (λ y. inr (sym q, y)) (h.0 x)),

@@ -6,7 +6,7 @@ use mathlib.Core.List.{List}
 use Prim.Native.Nat.{ℕ, ◌+◌, ◌-◌, ◌≤◌}
 use native.Mathlib.Omega.{arith}
 use lib.ListN.{length, take, length-take}
-use Rattle.std.specs.Prelude.{Some, Result, Ok, Err}
+use Rattle.std.specs.Prelude.{Some, None, Result, Ok, Err}
 use lib.Seq.{length-take-le}
 use Rattle.numbers.specs.declared.Fault.{Fault}
 use Rattle.trace.specs.declared.Header.{Header}
@@ -17,7 +17,7 @@ use Rattle.judge.specs.declared.Verdict.{Verdict}
 use Rattle.judge.specs.declared.Verdict.TheVariants.{Possible as possible, Impossible as impossible}
 use Rattle.judge.specs.Judge.{Possible, Judged}
 use Rattle.judge.specs.Table.{pieces, Left, Goes}
-use Rattle.judge.specs.Flags.{Has, Reached, OfTrace, Comparison, Ruled}
+use Rattle.judge.specs.Flags.{Has, Reached, OfTrace, Comparison}
 use Rattle.judge.proofs.Runs.{possible_goes, goes_possible}
 use Rattle.judge.proofs.Walks.{begun, card_long}
 
@@ -27,10 +27,19 @@ left_begins e l card x =
     let long : length card ≡ length l - e = ap length x.is ∙ length-take-le (length l - e) l (omega arith) in
     (x.is ∙ ap (λ (k : ℕ). take k l) (sym long), omega (arith, x.fits))
 
+-- the verdict by the table
+abbrev pub Ruled : ℕ → Verdict → List Told → List ℕ → Type 0
+Ruled C possible calls card = Goes C 0 calls (pieces calls) card
+Ruled C impossible calls card = Goes C 0 calls (pieces calls) card → ⊥
+
 module _ (t : List ℕ) (h : Header) where
   -- the card's length
   long : OfTrace t h (λ calls card. length card ≡ h.length)
   long calls card e = card_long t h 0 0 h.first calls card (begun t h ∙ e)
+
+  -- a card that does not begin the answered bytes
+  pub rules_differ : OfTrace t h (Comparison None) → OfTrace t h (Ruled h.capacity impossible)
+  rules_differ d calls card e g = d calls card e (left_begins g.end (pieces calls) card g.left).0
 
   module _ (answered held-count : ℕ) (set : List Bool) (a : OfTrace t h (Comparison (Some answered))) (r : OfTrace t h (λ calls card. Reached h.capacity calls set)) (ph : held-count ≡ answered - h.length) where
     -- no other count than this can be what is left
@@ -83,7 +92,7 @@ pub judged_fault : (t : List ℕ) (e : Fault) (v : Result Verdict Fault) → Err
 unfolding Judged
 judged_fault t e v q r = rw (refused (trace_of t) e.place q, r) refl
 
--- what `ruled` needs of a whole trace
+-- what the walks need of a whole trace
 pub whole_fits : (t : List ℕ) (h : Header) → Ok h ≡ checked (trace_of t) → (h.capacity ≤ 1024) × (h.card + h.length ≤ length t)
 whole_fits t h e =
     let k = held (trace_of t) h e in

@@ -9,13 +9,16 @@ use native.Mathlib.Decide.{dec_le}
 use native.Mathlib.Nat.{sub-zero}
 use native.Mathlib.Omega.{arith}
 use lib.ListN.{length, take, drop, length-append, length-take, length-drop, take-append-drop, drop_of_length-le}
-use lib.Seq.{take_all, take-append-le, take-append-add, take_at, drop_at, take-take, drop-drop, length-take-le, take-nil}
+use lib.Seq.{take_all, take-append-le, take-append-add, take_at, drop_at, take-take, length-take-le, take-nil}
 use lib.Dec.{eqb}
 use Rattle.std.specs.Prelude.{Option, Some, None, Ok, Err}
 use Rattle.std.specs.Bool.{then_some}
-use Rattle.std.proofs.lemmas.List.{drop-take}
+use Rattle.std.specs.Bool.{Decides}
+use Rattle.std.specs.List.{starts_with}
+use Rattle.std.proofs.lemmas.Bool.Decides.{Decides-eqb}
+use Rattle.std.proofs.lemmas.Slice.Eq.{slice_eq-Decides}
+use Rattle.std.proofs.lemmas.List.{nil_from_length, take_rest}
 use Rattle.std.proofs.lemmas.Bool.{eqb-true, eqb-false}
-use Rattle.trace.specs.declared.Claim.{Claim}
 use Rattle.numbers.specs.declared.Fault.{Fault}
 use Rattle.trace.specs.declared.TracedCall.{TracedCall}
 use Rattle.trace.specs.declared.Header.{Header}
@@ -79,7 +82,7 @@ pub record Inv (t : List ℕ) (h : Header) (gone total at C : ℕ) (flags : List
   pub here : OfTrace t h (Here t h gone total at flags)
 
 -- a call's step in the trace, and by its numbers
-step_told : (t : List ℕ) (C h k : ℕ) (call : TracedCall) → call.start + call.length ≤ length t → StepOf C h call.flush call.length call.claim k ↔ Step C h (told t call) k
+step_told : (t : List ℕ) (C h k : ℕ) (call : TracedCall) → call.start + call.length ≤ length t → StepOf C h call k ↔ Step C h (told t call) k
 step_told t C h k call p = grind (arith, length-take, length-drop)
 
 module _ (t : List ℕ) (h : Header) where
@@ -100,11 +103,11 @@ module _ (t : List ℕ) (h : Header) where
       }
 
   module _ (gone total at : ℕ) where
-    pub again : (C D : ℕ) (flags new : List Bool) (call : TracedCall) → Inv t h gone total at C flags → call_at t total at ≡ Ok call → D ≡ C → Turned C call.flush call.length call.claim flags new → gone < h.count → Inv t h (gone + 1) (total + call.length) call.next D new
+    pub again : (C D : ℕ) (flags new : List Bool) (call : TracedCall) → Inv t h gone total at C flags → call_at t total at ≡ Ok call → D ≡ C → Turned C call flags new → gone < h.count → Inv t h (gone + 1) (total + call.length) call.next D new
     unfolding Reach
     again C D flags new call i q d turns lt =
         let w = within t total at call q in
-        let tu = subst (λ (k : ℕ). Turned k call.flush call.length call.claim flags new) i.same turns in
+        let tu = subst (λ (k : ℕ). Turned k call flags new) i.same turns in
         record {
           few = omega (arith, i.few, w.room);
           same = d ∙ i.same;
@@ -160,38 +163,27 @@ call_short t total at call q f = omega (arith, (within t total at call q).room)
 
 -- ---- the card against the answered bytes
 
--- the card, from place `matched` on, is how the bytes that are left begin
-pub record Agrees (matched : ℕ) (card left : List ℕ) : Type 0 where
-  pub is : drop matched card ≡ take (length card - matched) left
-
-pub record HereBytes (t : List ℕ) (h : Header) (gone total at matched answered : ℕ) (calls : List Told) (card : List ℕ) : Type 0 where
+-- `left` is what of the card has not been met: the card begins what the calls answer for when this begins what the rest does
+pub record HereBytes (t : List ℕ) (h : Header) (gone total at : ℕ) (left : List ℕ) (answered : ℕ) (calls : List Told) (card : List ℕ) : Type 0 where
   pub rest : List Told
   pub is : ahead t h gone total at ≡ trace h rest card
   pub sum : answered + length (pieces rest) ≡ length (pieces calls)
-  pub same : (card ≡ take (length card) (pieces calls)) ↔ Agrees matched card (pieces rest)
+  pub same : (card ≡ take (length card) (pieces calls)) ↔ (left ≡ take (length left) (pieces rest))
 
-pub record InvBytes (t : List ℕ) (h : Header) (gone total at matched answered : ℕ) : Type 0 where
+pub record InvBytes (t : List ℕ) (h : Header) (gone total at : ℕ) (left : List ℕ) (answered : ℕ) : Type 0 where
   pub few : total ≤ 16384
   pub less : answered ≤ total
-  pub within : matched ≤ h.length
-  pub here : OfTrace t h (HereBytes t h gone total at matched answered)
+  pub here : OfTrace t h (HereBytes t h gone total at left answered)
 
-pub bytes_begin : (t : List ℕ) (h : Header) → InvBytes t h 0 0 h.first 0 0
+pub bytes_begin : (t : List ℕ) (h : Header) → InvBytes t h 0 0 h.first (take (h.card + h.length - h.card) (drop h.card t)) 0
 bytes_begin t h =
     record {
       few = omega arith;
       less = omega arith;
-      within = omega arith;
       here = λ calls card e.
-          record {
-            rest = calls;
-            is = begun t h ∙ e;
-            sum = omega arith;
-            same = (
-              (λ x. record { is = x ∙ ap (λ (k : ℕ). take k (pieces calls)) (sym (sub-zero (length card))) }),
-              (λ x. x.is ∙ ap (λ (k : ℕ). take k (pieces calls)) (sub-zero (length card))),
-            );
-          };
+          let long : h.card + h.length - h.card ≡ h.length = omega arith in
+          let whole : take (h.card + h.length - h.card) (drop h.card t) ≡ card = ap (λ (k : ℕ). take k (drop h.card t)) long ∙ sym (card_is t h 0 0 h.first calls card (begun t h ∙ e)) in
+          record { rest = calls; is = begun t h ∙ e; sum = omega arith; same = rw whole ((λ x. x), (λ x. x)) };
     }
 
 -- a list in two parts is another in two parts of the same lengths exactly when the parts are equal
@@ -211,136 +203,110 @@ piece_agrees c p q m e = by (dec_le (length p) (length c))
 
 -- the piece of a call: how long it is, and where it stands in the trace
 module _ (t : List ℕ) (call : TracedCall) (part : call.start + call.length ≤ length t) where
-  pub piece_long : length (piece (told t call)) ≡ answers call.flush call.length call.claim
+  pub piece_long : length (piece (told t call)) ≡ answers call
   piece_long = grind (arith, length-take, length-drop)
 
-  pub piece_stands : (m : ℕ) → m ≤ answers call.flush call.length call.claim → take m (piece (told t call)) ≡ take m (drop call.start t)
+  pub piece_stands : (m : ℕ) → m ≤ answers call → take m (piece (told t call)) ≡ take m (drop call.start t)
   piece_stands m h = grind (arith, take-take, take-nil)
 
--- a part of the card, as a part of the trace
-card_part : (t card : List ℕ) (place long matched m : ℕ) → card ≡ take long (drop place t) → matched + m ≤ long → take m (drop matched card) ≡ take m (drop (place + matched) t)
-card_part t card place long matched m e h = grind (arith, drop-take matched (long - matched) (drop place t), take-take m (long - matched) (drop matched (drop place t)), drop-drop matched place t)
+answers_most : (call : TracedCall) → answers call ≤ call.length
+answers_most call = grind arith
 
-answers_most : (b : Bool) (n : ℕ) (c : Claim) → answers b n c ≤ n
-answers_most b n c = grind arith
-
-in_card : (a b l m : ℕ) → a ≡ min b (l - m) → m ≤ l → (a ≤ b) × (m + a ≤ l)
-in_card a b l m e k = (omega arith, omega arith)
-
--- a call that is read, of whose claimed bytes `part` are compared
-pub record Met (t : List ℕ) (h : Header) (gone total at matched answered : ℕ) (call : TracedCall) (taken part : ℕ) : Type 0 where
-  pub walked : InvBytes t h gone total at matched answered
+-- a call that is read, of whose claimed bytes the first m are compared with what is left of the card
+pub record Met (t : List ℕ) (h : Header) (gone total at : ℕ) (left : List ℕ) (answered : ℕ) (call : TracedCall) (taken m : ℕ) : Type 0 where
+  pub walked : InvBytes t h gone total at left answered
   pub reads : call_at t total at ≡ Ok call
-  pub taken_is : taken ≡ answers call.flush call.length call.claim
-  pub part_is : part ≡ min taken (h.length - matched)
+  pub taken_is : taken ≡ answers call
+  pub most : m ≡ min taken (length left)
 
--- where its bytes stand
-pub record Fits (t : List ℕ) (long matched answered total part taken : ℕ) (call : TracedCall) : Type 0 where
-  pub trace_part : call.start + part ≤ length t
-  pub card_part : matched + part ≤ long
-  pub total_fits : total + call.length ≤ 16384
-  pub answered_fits : answered + taken ≤ 16384
+module _ {t : List ℕ} {h : Header} {gone total at : ℕ} {left : List ℕ} {answered : ℕ} {call : TracedCall} {taken m : ℕ} (x : Met t h gone total at left answered call taken m) where
+  pub record Fits : Type 0 where
+    pub starts : call.start ≤ length t
+    pub total_fits : total + call.length ≤ 16384
+    pub answered_fits : answered + taken ≤ total + call.length
 
--- its bytes beside the card's
-module _ {t : List ℕ} {h : Header} {gone total at matched answered : ℕ} {call : TracedCall} {taken part : ℕ} (m : Met t h gone total at matched answered call taken part) where
-  pub bytes_fit : Fits t h.length matched answered total part taken call
+  pub bytes_fit : Fits
   bytes_fit =
-      let w = within t total at call m.reads in
-      let c = in_card part taken h.length matched m.part_is m.walked.within in
-      let a = answers_most call.flush call.length call.claim in
-      let p : part ≤ call.length = omega (arith, c.0, m.taken_is) in
-      let n : total + call.length ≤ 16384 = omega (arith, m.walked.few, w.room) in
-      record { trace_part = omega (arith, w.part); card_part = c.1; total_fits = n; answered_fits = omega (arith, m.walked.less, m.taken_is) }
+      let w = within t total at call x.reads in
+      let a = answers_most call in
+      record { starts = omega (arith, w.part); total_fits = omega (arith, x.walked.few, w.room); answered_fits = omega (arith, x.walked.less, x.taken_is) }
 
   -- what the comparison of this call decides
-  decides : (calls : List Told) (card : List ℕ) (x : HereBytes t h gone total at matched answered calls card) (n : List Told) → x.rest ≡ told t call ∷ n → (card ≡ take (length card) (pieces calls)) ↔ ((take part (drop call.start t) ≡ take part (drop (h.card + matched) t)) × Agrees (matched + part) card (pieces n))
+  decides : (calls : List Told) (card : List ℕ) (y : HereBytes t h gone total at left answered calls card) (n : List Told) → y.rest ≡ told t call ∷ n → (card ≡ take (length card) (pieces calls)) ↔ ((take m left ≡ take m (drop call.start t)) × (drop m left ≡ take (length (drop m left)) (pieces n)))
   unfolding pieces
-  decides calls card x n front =
-      let w = within t total at call m.reads in
-      let long = card_long t h gone total at x.rest card x.is in
-      let c = drop matched card in
-      let c-long : length c ≡ length card - matched = length-drop matched card in
+  decides calls card y n front =
+      let w = within t total at call x.reads in
       let p = piece (told t call) in
-      let few : part ≤ answers call.flush call.length call.claim = omega (arith, m.part_is, m.taken_is) in
-      let pm : part ≡ min (length p) (length c) = m.part_is ∙ ap₂ (λ (a b : ℕ). min a b) (m.taken_is ∙ sym (piece_long t call w.part)) (sym (c-long ∙ ap (λ (k : ℕ). k - matched) long)) in
-      let agree = piece_agrees c p (pieces n) part pm in
-      let on-card : take part c ≡ take part (drop (h.card + matched) t) = card_part t card h.card h.length matched part (card_is t h gone total at x.rest card x.is) bytes_fit.card_part in
-      let in-trace : take part p ≡ take part (drop call.start t) = piece_stands t call w.part part few in
-      let moved : drop part c ≡ drop (matched + part) card = drop-drop part matched card in
-      let less : length c - part ≡ length card - (matched + part) = less_more (length c) (length card) matched part c-long in
-      let rest_is : pieces x.rest ≡ p ++ pieces n = ap pieces front in (
-        (λ e.
-            let a = x.same.0 e in
-            let b = agree.0 (a.is ∙ ap₂ (λ (k : ℕ) (l : List ℕ). take k l) (sym c-long) rest_is) in
-            (sym in-trace ∙ sym b.0 ∙ on-card, record { is = sym moved ∙ b.1 ∙ ap (λ (k : ℕ). take k (pieces n)) less })),
-        (λ y.
-            let b = agree.1 (on-card ∙ sym y.0 ∙ sym in-trace, moved ∙ y.1.is ∙ ap (λ (k : ℕ). take k (pieces n)) (sym less)) in
-            x.same.1 (record { is = b ∙ ap₂ (λ (k : ℕ) (l : List ℕ). take k l) c-long (sym rest_is) })),
+      let few : m ≤ answers call = omega (arith, x.most, x.taken_is) in
+      let short : m ≡ min (length p) (length left) = x.most ∙ ap (λ (k : ℕ). min k (length left)) (x.taken_is ∙ sym (piece_long t call w.part)) in
+      let agree = piece_agrees left p (pieces n) m short in
+      let stands : take m p ≡ take m (drop call.start t) = piece_stands t call w.part m few in
+      let rest_is : pieces y.rest ≡ p ++ pieces n = ap pieces front in
+      rw (← stands, length-drop) (
+        (λ e. agree.0 (y.same.0 e ∙ ap (λ (l : List ℕ). take (length left) l) rest_is)),
+        (λ e. y.same.1 (agree.1 e ∙ ap (λ (l : List ℕ). take (length left) l) (sym rest_is))),
       )
-    where
-      less_more : (a b m k : ℕ) → a ≡ b - m → a - k ≡ b - (m + k)
-      less_more a b m k e = omega arith
 
-  pub bytes_again : gone < h.count → take part (drop call.start t) ≡ take part (drop (h.card + matched) t) → InvBytes t h (gone + 1) (total + call.length) call.next (matched + part) (answered + taken)
+  pub bytes_again : gone < h.count → take m left ≡ take m (drop call.start t) → InvBytes t h (gone + 1) (total + call.length) call.next (drop m left) (answered + taken)
   unfolding pieces
   bytes_again lt same_bytes =
-      let w = within t total at call m.reads in
-      let most = answers_most call.flush call.length call.claim in
       record {
         few = bytes_fit.total_fits;
-        less = omega (arith, m.walked.less, m.taken_is, most);
-        within = bytes_fit.card_part;
+        less = bytes_fit.answered_fits;
         here = λ calls card e.
-            let x = m.walked.here calls card e in
-            let n = next_call t h gone total at x.rest card x.is call m.reads lt in
-            let d = decides calls card x n.later n.front in
-            let grown : length (pieces x.rest) ≡ length (piece (told t call)) + length (pieces n.later) = ap (λ (l : List Told). length (pieces l)) n.front ∙ length-append (piece (told t call)) (pieces n.later) in
+            let w = within t total at call x.reads in
+            let y = x.walked.here calls card e in
+            let n = next_call t h gone total at y.rest card y.is call x.reads lt in
+            let d = decides calls card y n.later n.front in
+            let grown : length (pieces y.rest) ≡ length (piece (told t call)) + length (pieces n.later) = ap (λ (l : List Told). length (pieces l)) n.front ∙ length-append (piece (told t call)) (pieces n.later) in
             record {
               rest = n.later;
               is = n.goes;
-              sum = omega (arith, x.sum, grown, m.taken_is, piece_long t call w.part);
-              same = ((λ y. (d.0 y).1), (λ y. d.1 (same_bytes, y)));
+              sum = omega (arith, y.sum, grown, x.taken_is, piece_long t call w.part);
+              same = ((λ z. (d.0 z).1), (λ z. d.1 (same_bytes, z)));
             };
       }
 
-  pub bytes_differ : gone < h.count → (take part (drop call.start t) ≡ take part (drop (h.card + matched) t) → ⊥) → OfTrace t h (Comparison None)
-  bytes_differ lt other calls card e y =
-      let x = m.walked.here calls card e in
-      let n = next_call t h gone total at x.rest card x.is call m.reads lt in
-      other ((decides calls card x n.later n.front).0 y).0
+  pub bytes_differ : gone < h.count → (take m left ≡ take m (drop call.start t) → ⊥) → OfTrace t h (Comparison None)
+  bytes_differ lt other calls card e z =
+      let y = x.walked.here calls card e in
+      let n = next_call t h gone total at y.rest card y.is call x.reads lt in
+      other ((decides calls card y n.later n.front).0 z).0
 
 -- the end: the card is used up, or it is not
-module _ (t : List ℕ) (h : Header) (gone total at matched answered : ℕ) (i : InvBytes t h gone total at matched answered) (z : h.count ≤ gone) where
-  bytes_end : matched ≡ h.length → OfTrace t h (Comparison (Some answered))
+module _ (t : List ℕ) (h : Header) (gone total at : ℕ) (left : List ℕ) (answered : ℕ) (i : InvBytes t h gone total at left answered) (z : h.count ≤ gone) where
+  bytes_end : length left ≡ 0 → OfTrace t h (Comparison (Some answered))
   unfolding pieces
   bytes_end e calls card p =
       let x = i.here calls card p in
-      let none = none_left t h gone total at x.rest card x.is z in
-      let no_pieces : pieces x.rest ≡ [] = ap pieces none in
-      let long = card_long t h gone total at x.rest card x.is in (
+      let no_pieces : pieces x.rest ≡ [] = ap pieces (none_left t h gone total at x.rest card x.is z) in (
         omega (arith, x.sum, ap length no_pieces),
-        x.same.1 (record { is = drop_of_length-le card {i = matched} (omega arith) ∙ sym (ap (λ (l : List ℕ). take (length card - matched) l) no_pieces ∙ take-nil (length card - matched)) }),
+        x.same.1 (nil_from_length left e ∙ sym (ap (λ (k : ℕ). take k (pieces x.rest)) e)),
       )
 
-  bytes_short : (matched ≡ h.length → ⊥) → OfTrace t h (Comparison None)
+  bytes_short : (length left ≡ 0 → ⊥) → OfTrace t h (Comparison None)
   unfolding pieces
   bytes_short n calls card p y =
       let x = i.here calls card p in
-      let none = none_left t h gone total at x.rest card x.is z in
-      let no_pieces : pieces x.rest ≡ [] = ap pieces none in
-      let long = card_long t h gone total at x.rest card x.is in
-      let empty : length (drop matched card) ≡ 0 = ap length ((x.same.0 y).is ∙ ap (λ (l : List ℕ). take (length card - matched) l) no_pieces ∙ take-nil (length card - matched)) in
-      let left-long : length (drop matched card) ≡ length card - matched = length-drop matched card in
-      n (omega (arith, i.within))
+      let no_pieces : pieces x.rest ≡ [] = ap pieces (none_left t h gone total at x.rest card x.is z) in
+      n (ap length (x.same.0 y ∙ ap (λ (l : List ℕ). take (length left) l) no_pieces ∙ take-nil (length left)))
 
-  pub bytes_ends : (r : Option ℕ) → r ≡ then_some (eqb matched h.length) answered → OfTrace t h (Comparison r)
-  bytes_ends r e = subst (λ (o : Option ℕ). OfTrace t h (Comparison o)) (sym e) (by (eqb matched h.length) refl)
+  pub bytes_ends : (b : Bool) (r : Option ℕ) → b ≡ eqb (length left) 0 → r ≡ then_some b answered → OfTrace t h (Comparison r)
+  bytes_ends b r p e = subst (λ (o : Option ℕ). OfTrace t h (Comparison o)) (sym e) (by b p)
     where
-      by : (b : Bool) → eqb matched h.length ≡ b → OfTrace t h (Comparison (then_some b answered))
-      by true p = bytes_end (eqb-true matched h.length p)
-      by false p = bytes_short (eqb-false matched h.length p)
+      by : (b' : Bool) → b' ≡ eqb (length left) 0 → OfTrace t h (Comparison (then_some b' answered))
+      by true q = bytes_end (eqb-true (length left) 0 (sym q))
+      by false q = bytes_short (eqb-false (length left) 0 (sym q))
 
-pub bytes_never : (t : List ℕ) (h : Header) (gone total at matched answered : ℕ) (e : Fault) (P : List Told → List ℕ → Type 0) → InvBytes t h gone total at matched answered → call_at t total at ≡ Err e → gone < h.count → OfTrace t h P
-bytes_never t h gone total at matched answered f P i q lt calls card e =
+pub bytes_never : (t : List ℕ) (h : Header) (gone total at : ℕ) (left : List ℕ) (answered : ℕ) (e : Fault) (P : List Told → List ℕ → Type 0) → InvBytes t h gone total at left answered → call_at t total at ≡ Err e → gone < h.count → OfTrace t h P
+bytes_never t h gone total at left answered f P i q lt calls card e =
     let x = i.here calls card e in
     absurd (never_stops t h gone total at x.rest card x.is f q lt)
+
+-- what `starts_with` tells of the first m numbers
+pub starts_same : (t part left : List ℕ) (start m : ℕ) (r : Bool) → r ≡ starts_with eqb (take (length t - start) (drop start t)) part → part ≡ take m left → m ≤ length left → Decides r (take m left ≡ take m (drop start t))
+starts_same t part left start m r e p l =
+    let long : length part ≡ m = ap length p ∙ length-take-le m left l in
+    let same : take (length part) (take (length t - start) (drop start t)) ≡ take m (drop start t) = ap₂ (λ (k : ℕ) (s : List ℕ). take k s) long (take_rest t start) in
+    let d = slice_eq-Decides Decides-eqb part (take (length part) (take (length t - start) (drop start t))) r e in
+    ((λ q. sym p ∙ d.0 q ∙ same), (λ q. d.1 (p ∙ q ∙ sym same)))

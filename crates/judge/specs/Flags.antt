@@ -4,13 +4,12 @@ use Rattle.std.specs.Prelude.{ℕ, ◌+◌, ◌≤◌, ◌<◌, min, ◌≡◌, 
 use Rattle.laws.specs.Pick.{pick}
 use Rattle.trace.specs.declared.Claim.{Claim}
 use Rattle.trace.specs.declared.Claim.TheVariants.{Ok, Done, Interrupted, Zero, Error}
+use Rattle.trace.specs.declared.TracedCall.{TracedCall}
 use Rattle.trace.specs.declared.Header.{Header}
 use Rattle.trace.specs.Calls.{Told}
 use Rattle.trace.specs.Trace.{trace, calls_from}
 use Rattle.trace.specs.Claims.{claimed}
-use Rattle.judge.specs.declared.Verdict.{Verdict}
-use Rattle.judge.specs.declared.Verdict.TheVariants.{Possible, Impossible}
-use Rattle.judge.specs.Table.{WriteStep, FlushStep, Reach, pieces, Goes}
+use Rattle.judge.specs.Table.{WriteStep, FlushStep, Reach, pieces}
 
 -- the flag of k is set
 pub record Has (flags : List Bool) (k : ℕ) : Type 0 where
@@ -36,14 +35,18 @@ pub record Between (low high k : ℕ) : Type 0 where
   pub least : low ≤ k
   pub most : k ≤ high
 
+-- whether a claim is an ok of the whole slice
+abbrev pub whole : ℕ → Claim → Bool
+whole n (Ok m) = eqb m n
+whole n _ = false
+
 -- whether a call says that its slice was stored: a write that is shorter than the capacity claims its length
-abbrev pub stores : ℕ → Bool → ℕ → Claim → Bool
-stores C flush n (Ok m) = not flush && (ltb n C && eqb m n)
-stores C flush n _ = false
+abbrev pub stores : ℕ → TracedCall → Bool
+stores C call = not call.flush && (ltb call.length C && whole call.length call.claim)
 
 -- the flags at which those of old land, where the slice was stored
-pub record Stored (C : ℕ) (flush : Bool) (n : ℕ) (claim : Claim) (old new : List Bool) : Type 0 where
-  pub at : (k : ℕ) → Has new k ↔ ((stores C flush n claim ≡ true) × Lands C n (length old) old k)
+pub record Stored (C : ℕ) (call : TracedCall) (old new : List Bool) : Type 0 where
+  pub at : (k : ℕ) → Has new k ↔ ((stores C call ≡ true) × Lands C call.length (length old) old k)
 
 -- whether a device write of n bytes, or a device flush, can say this
 abbrev pub directs : ℕ → Claim → Bool
@@ -59,8 +62,8 @@ syncs (Error code) = true
 syncs _ = false
 
 -- whether the call can leave nothing held
-abbrev pub empties : ℕ → Bool → ℕ → Claim → Bool
-empties C flush n claim = pick flush (syncs claim) (leb C n && directs n claim)
+abbrev pub empties : ℕ → TracedCall → Bool
+empties C call = pick call.flush (syncs call.claim) (leb C call.length && directs call.length call.claim)
 
 -- whether a flush of the buffer that is stopped can say this
 abbrev pub halts : Claim → Bool
@@ -69,22 +72,22 @@ halts (Error code) = true
 halts _ = false
 
 -- whether a stopped flush can leave counts from 1 up to the highest flag
-abbrev pub stops : ℕ → Bool → ℕ → Claim → ℕ → Bool
-stops C flush n claim most = halts claim && (flush || ltb C (most + n))
+abbrev pub stops : ℕ → TracedCall → ℕ → Bool
+stops C call most = halts call.claim && (call.flush || ltb C (most + call.length))
 
 -- the table's step of a call by its kind
-abbrev pub StepOf : ℕ → ℕ → Bool → ℕ → Claim → ℕ → Type 0
-StepOf C h flush n claim k = pick flush (FlushStep h (claimed claim) k) (WriteStep C h n (claimed claim) k)
+abbrev pub StepOf : ℕ → ℕ → TracedCall → ℕ → Type 0
+StepOf C h call k = pick call.flush (FlushStep h (claimed call.claim) k) (WriteStep C h call.length (claimed call.claim) k)
 
 -- some flag leads to k
-pub record Leads (C : ℕ) (flush : Bool) (n : ℕ) (claim : Claim) (old : List Bool) (k : ℕ) : Type 0 where
+pub record Leads (C : ℕ) (call : TracedCall) (old : List Bool) (k : ℕ) : Type 0 where
   pub from : ℕ
   pub set : Has old from
-  pub step : StepOf C from flush n claim k
+  pub step : StepOf C from call k
 
 -- the flags after a call are those that some flag before it leads to
-pub record Turned (C : ℕ) (flush : Bool) (n : ℕ) (claim : Claim) (old new : List Bool) : Type 0 where
-  pub at : (k : ℕ) → Has new k ↔ Leads C flush n claim old k
+pub record Turned (C : ℕ) (call : TracedCall) (old new : List Bool) : Type 0 where
+  pub at : (k : ℕ) → Has new k ↔ Leads C call old k
 
 -- the flags are what the table leads to from nothing held
 pub record Reached (C : ℕ) (calls : List Told) (flags : List Bool) : Type 0 where
@@ -96,17 +99,15 @@ OfTrace t h P = (calls : List Told) (card : List ℕ) → calls_from t h.capacit
 
 -- ---- the card against the answered bytes
 
--- how many bytes a claim answers for: those of an ok, and no more than the slice has
-abbrev pub answers : Bool → ℕ → Claim → ℕ
-answers flush n (Ok m) = pick flush 0 (min m n)
-answers flush n _ = 0
+-- how many bytes a call's claim answers for: those of an ok, and no more than the slice has
+abbrev pub counted : Claim → ℕ
+counted (Ok m) = m
+counted _ = 0
+
+abbrev pub answers : TracedCall → ℕ
+answers call = pick call.flush 0 (min (counted call.claim) call.length)
 
 -- what the comparison says: the card begins the answered bytes, which are so many; or it does not
 abbrev pub Comparison : Option ℕ → List Told → List ℕ → Type 0
 Comparison (Some answered) calls card = (answered ≡ length (pieces calls)) × (card ≡ take (length card) (pieces calls))
 Comparison None calls card = card ≡ take (length card) (pieces calls) → ⊥
-
--- the verdict by the table
-abbrev pub Ruled : ℕ → Verdict → List Told → List ℕ → Type 0
-Ruled C Possible calls card = Goes C 0 calls (pieces calls) card
-Ruled C Impossible calls card = Goes C 0 calls (pieces calls) card → ⊥

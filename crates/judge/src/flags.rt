@@ -52,7 +52,7 @@ impl Counts {
 
     // Whether a call says that its slice was stored.
     fn stores(&self, call: &TracedCall) -> bool
-        ensures { result ≡ stores self.now.capacity call.now.flush call.now.length call.now.claim }
+        ensures { result ≡ stores self.now.capacity call.now }
     {
         !call.flush
             && call.length < self.capacity
@@ -61,7 +61,7 @@ impl Counts {
 
     // The flags at which these land, if the call's slice was stored. None if it was not.
     fn stored(&self, call: &TracedCall) -> [bool; COUNTS]
-        ensures { Stored self.now.capacity call.now.flush call.now.length call.now.claim self.now.flags result }
+        ensures { Stored self.now.capacity call.now self.now.flags result }
     {
         let mut new = [false; COUNTS];
         if self.stores(call) {
@@ -76,7 +76,7 @@ impl Counts {
 
     // Whether the call can leave nothing held.
     fn empties(&self, call: &TracedCall) -> bool
-        ensures { result ≡ empties self.now.capacity call.now.flush call.now.length call.now.claim }
+        ensures { result ≡ empties self.now.capacity call.now }
     {
         if call.flush {
             syncs(call.claim)
@@ -88,7 +88,7 @@ impl Counts {
     // Whether a stopped flush can leave any count from 1 to `most`, the highest that was held.
     fn stops(&self, call: &TracedCall, most: usize) -> bool
         requires { (most ≤ 1024) × (call.now.length ≤ 16384) }
-        ensures { result ≡ stops self.now.capacity call.now.flush call.now.length call.now.claim most }
+        ensures { result ≡ stops self.now.capacity call.now most }
     {
         halts(call.claim) && (call.flush || self.capacity < most + call.length)
     }
@@ -97,7 +97,7 @@ impl Counts {
     pub(crate) fn turn(&mut self, call: &TracedCall)
         requires { call.now.length ≤ 16384 }
         ensures capacity { self.new.capacity ≡ self.old.capacity }
-        ensures flags { Turned self.old.capacity call.now.flush call.now.length call.now.claim self.old.flags self.new.flags }
+        ensures flags { Turned self.old.capacity call.now self.old.flags self.new.flags }
     {
         // An empty set stays empty.
         let Some(most) = self.highest() else {

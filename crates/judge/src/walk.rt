@@ -1,5 +1,5 @@
 // The walks over a trace's calls. Neither keeps a call.
-ghost use Rattle.std.specs.Prelude.{◌≡◌, ◌+◌, ◌≤◌, length, take, drop, Decides};
+ghost use Rattle.std.specs.Prelude.{◌≡◌, ◌+◌, ◌≤◌, length};
 ghost use Rattle.judge.specs.Flags.{Reached, answers, OfTrace, Comparison};
 
 use crate::flags::Counts;
@@ -26,7 +26,7 @@ pub(crate) fn reach(trace: &[u8], header: &Header) -> Counts
 
 // How many bytes a call's claim answers for.
 fn answered_by(call: &TracedCall) -> usize
-    ensures { result ≡ answers call.now.flush call.now.length call.now.claim }
+    ensures { result ≡ answers call.now }
 {
     match call.claim {
         Claim::Ok(m) if !call.flush => m.min(call.length),
@@ -34,36 +34,29 @@ fn answered_by(call: &TracedCall) -> usize
     }
 }
 
-// Whether the n bytes from a on are those from b on.
-fn same_bytes(t: &[u8], a: usize, b: usize, n: usize) -> bool
-    requires { (a + n ≤ length t.now) × (b + n ≤ length t.now) }
-    ensures { Decides result (take n (drop a t.now) ≡ take n (drop b t.now)) }
-{
-    t[a..a + n] == t[b..b + n]
-}
-
 // How many bytes the claims answer for, if the card begins them.
 pub(crate) fn compare(trace: &[u8], header: &Header) -> Option<usize>
     requires { header.now.card + header.now.length ≤ length trace.now }
     ensures { OfTrace trace.now header.now (Comparison result) }
 {
+    // The part of the card that no call has answered for yet.
+    let mut card = &trace[header.card..header.card + header.length];
     let mut total = 0;
     let mut at = header.first;
-    let mut matched = 0;
     let mut answered = 0;
     for _ in 0..header.count {
         let Ok(call) = calls::read_call(trace, total, at) else {
             return None;
         };
         let taken = answered_by(&call);
-        let part = taken.min(header.length - matched);
-        if !same_bytes(trace, call.start, header.card + matched, part) {
+        let (part, rest) = card.split_at(taken.min(card.len()));
+        if !trace[call.start..].starts_with(part) {
             return None;
         }
+        card = rest;
         total += call.length;
         at = call.next;
-        matched += part;
         answered += taken;
     }
-    (matched == header.length).then_some(answered)
+    card.is_empty().then_some(answered)
 }

@@ -3,4 +3,4 @@ use Rattle.judge.proofs.Walks.{InvBytes}
 use Rattle.judge.proofs.walk.compare.Given as goal
 
 abbrev pub invariant-loop : goal.invariant-loop
-invariant-loop l = InvBytes l.trace l.header l.counter l.total l.at l.matched l.answered
+invariant-loop l = InvBytes l.trace l.header l.counter l.total l.at l.card l.answered

@@ -15,10 +15,10 @@ loop-h-preserved c =
       | then-held w ↦
           record {
             long = rw w.new-is (length-set c.loop-h.new _ _ ∙ c.loop-h.invariant.long);
-            landed = rw w.new-is (stored_more _ _ _ _ _ _ _ _ c.if-stores.ensures (omega arith) c.loop-h.invariant.landed w.landing.ensures w.if-held.true);
+            landed = rw w.new-is (stored_more _ c.args.call.now _ _ _ _ c.if-stores.ensures (omega arith) c.loop-h.invariant.landed w.landing.ensures w.if-held.true);
           }
       | else-held w ↦ record { long = rw w.new-is c.loop-h.invariant.long; landed = rw w.new-is (land_skip _ _ _ _ _ c.loop-h.invariant.landed w.if-held.false) }
     ]
 
 pub returns-else-stores : goal.returns-else-stores
-returns-else-stores c = none_stored _ _ _ _ 1025 _ c.if-stores.ensures
+returns-else-stores c = none_stored _ c.args.call.now 1025 _ c.if-stores.ensures
