@@ -60,7 +60,3 @@ send_all_one script source m used out r q x y e f =
 
 pub numbers_one : (w : BufWriter) (r q : Numbers) → r ≡ numbers w → q ≡ numbers w → r ≡ q
 numbers_one w = one (numbers w)
-
--- a new writer
-pub new_one : (v w x : BufWriter) → w ≡ v → x ≡ v → w ≡ x
-new_one v = one v

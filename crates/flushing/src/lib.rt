@@ -31,25 +31,7 @@ pub struct BufWriter<'a, 's> {
     pub calls: usize,
 }
 
-impl<'a, 's> BufWriter<'a, 's> {
-    // In this state, with no device call made yet.
-    pub fn new(
-        state: State,
-        storage: &'a mut [u8],
-        script: &'s [u32],
-        medium: &'a mut [u8],
-    ) -> BufWriter<'a, 's>
-        ensures { result ≡ record { state = state; storage = storage.entry; script = script.entry; medium = medium.entry; calls = 0 } }
-    {
-        BufWriter {
-            state,
-            storage,
-            script,
-            medium,
-            calls: 0,
-        }
-    }
-
+impl BufWriter<'_, '_> {
     // What the limits are asked of.
     pub fn numbers(&self) -> Numbers
         ensures { result ≡ numbers self.now }
