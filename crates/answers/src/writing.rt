@@ -50,8 +50,13 @@ pub(crate) fn answer(request: &[u8], output: &mut [u8]) -> usize {
     let medium = request.load(&mut medium);
     let out = request.number();
     let slice = request.bytes();
-    let state = State { held, out, used };
-    let mut w = BufWriter::new(state, storage, script, medium);
+    let mut w = BufWriter {
+        state: State { held, out, used },
+        storage,
+        script,
+        medium,
+        calls: 0,
+    };
     let answer = match call {
         Call::Write => counted(bufwriter::write(&mut w, slice)),
         Call::WriteAll => uncounted(bufwriter::write_all(&mut w, slice)),

@@ -1,5 +1,5 @@
 // What the lines are made of.
-use card::Answer;
+use card::{Answer, Failure};
 use std::fmt;
 use std::fmt::Display;
 
@@ -26,13 +26,13 @@ pub(crate) struct Said(pub(crate) Answer);
 impl Display for Said {
     fn fmt<W: fmt::Write>(&self, f: &mut fmt::Formatter<W>) -> fmt::Result {
         match self.0 {
-            Answer::Ok(n) => write!(f, "ok {n}"),
-            Answer::Done => f.write_str("ok"),
-            Answer::Interrupted => f.write_str("interrupted"),
-            Answer::Zero => f.write_str("zero"),
-            Answer::Whole => f.write_str("whole"),
-            Answer::Error(code) => write!(f, "error {code}"),
-            Answer::Refused(refusal) => write!(f, "refused {refusal}"),
+            Ok(Some(n)) => write!(f, "ok {n}"),
+            Ok(None) => f.write_str("ok"),
+            Err(Failure::Interrupted) => f.write_str("interrupted"),
+            Err(Failure::Zero) => f.write_str("zero"),
+            Err(Failure::Whole) => f.write_str("whole"),
+            Err(Failure::Error(code)) => write!(f, "error {code}"),
+            Err(Failure::Refused(refusal)) => write!(f, "refused {refusal}"),
         }
     }
 }

@@ -1,6 +1,7 @@
 // Rows 1 to 9: the buffered writer and the line writer. Capacity 4 unless said.
 use crate::print::{Hex, Said};
-use flushing::State;
+use card::{Answer, counted, uncounted};
+use flushing::{BufWriter, State};
 use line::linewriter;
 use std::io;
 use std::io::Write;
@@ -14,8 +15,26 @@ enum Call<'a> {
     LineWrite(&'a [u8]),
 }
 
-// A call from a state, and its line: answer, device calls, the bytes held, the bytes out and the
-// whole storage.
+// A line: answer, device calls, the bytes held, the bytes out and the whole storage.
+fn show(
+    rt: &HostRuntime,
+    row: usize,
+    name: &str,
+    answer: Answer,
+    w: &BufWriter<'_, '_>,
+) -> io::Result<()> {
+    let out = w.state.out.min(w.medium.len());
+    println!(rt;
+        "{row} {name} {} calls {} held {} out {} storage {}",
+        Said(answer),
+        w.calls,
+        Hex(bufwriter::buffer(w.state, w.storage)),
+        Hex(&w.medium[..out]),
+        Hex(w.storage)
+    )
+}
+
+// A call from a state, and its line.
 fn run(
     rt: &HostRuntime,
     row: usize,
@@ -25,32 +44,20 @@ fn run(
     script: &[u32],
 ) -> io::Result<()> {
     let mut medium = [0u8; 16];
-    let (name, a) = match call {
-        Call::Write(slice) => {
-            let a = bufwriter::write(state, storage, script, &mut medium, slice);
-            ("write", a)
-        }
-        Call::WriteAll(slice) => {
-            let a = bufwriter::write_all(state, storage, script, &mut medium, slice);
-            ("write_all", a)
-        }
-        Call::Flush => {
-            let a = bufwriter::flush(state, storage, script, &mut medium);
-            ("flush", a)
-        }
-        Call::LineWrite(slice) => {
-            let a = linewriter::write(state, storage, script, &mut medium, slice);
-            ("line write", a)
-        }
+    let mut w = BufWriter {
+        state,
+        storage,
+        script,
+        medium: &mut medium,
+        calls: 0,
     };
-    let held = Hex(bufwriter::buffer(a.state, storage));
-    let out = Hex(&medium[..a.state.out.min(16)]);
-    println!(rt;
-        "{row} {name} {} calls {} held {held} out {out} storage {}",
-        Said(a.answer),
-        a.calls,
-        Hex(storage)
-    )
+    let (name, answer) = match call {
+        Call::Write(slice) => ("write", counted(bufwriter::write(&mut w, slice))),
+        Call::WriteAll(slice) => ("write_all", uncounted(bufwriter::write_all(&mut w, slice))),
+        Call::Flush => ("flush", uncounted(bufwriter::flush(&mut w))),
+        Call::LineWrite(slice) => ("line write", counted(linewriter::write(&mut w, slice))),
+    };
+    show(rt, row, name, answer, &w)
 }
 
 // A new writer's call.

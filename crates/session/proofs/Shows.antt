@@ -10,8 +10,7 @@ use borrow.Author.Tests.{eq-eqb, ne_eqb}
 use Rattle.laws.specs.Put.{put}
 use Rattle.card.specs.Limits.{bytes_most}
 use Rattle.flushing.specs.declared.State.{State}
-use Rattle.flushing.specs.declared.BufWriter.{BufWriter}
-use Rattle.flushing.specs.World.{World, world, world_of, fresh, new}
+use Rattle.flushing.specs.World.{world_of, fresh, new}
 use Rattle.reader.specs.declared.State.{State as ReaderState}
 use Rattle.reader.specs.declared.BufReader.{BufReader}
 use Rattle.reader.specs.World as Reader
@@ -46,16 +45,12 @@ module _ (t : List ℕ) (header : Header) (script : List ℕ) (g : Ready t heade
   capacity_in = (whole t header script g.stock g.calls g.is).capacity_within
 
   module _ (page after : Page) where
-    pub write_lines : (w : BufWriter) (state : State) → world w ≡ world_of state (take header.capacity (replicate 1024 0)) (replicate 16384 0) → w.script.now ≡ script → state ≡ fresh → Lines t header.kind header.count header.first (λ v call. writer_step header.kind w.script.now v call) writer_ends (world w) page after → Lines t header.kind header.count header.first (λ v call. writer_step header.kind script v call) writer_ends (new (replicate header.capacity 0) (replicate bytes_most 0)) page after
-    write_lines w state e q f l =
-        let is : world w ≡ new (replicate header.capacity 0) (replicate bytes_most 0) =
-        e
-        ∙ ap (λ (s : State). world_of s (take header.capacity (replicate 1024 0)) (replicate 16384 0)) f
-        ∙ ap (λ (st : List ℕ). new st (replicate bytes_most 0)) (take-replicate header.capacity 1024 0 capacity_in) in
+    pub write_lines : (state : State) → state ≡ fresh → Lines t header.kind header.count header.first (λ w call. writer_step header.kind script w call) writer_ends (world_of state (take header.capacity (replicate 1024 0)) (replicate 16384 0)) page after → Lines t header.kind header.count header.first (λ w call. writer_step header.kind script w call) writer_ends (new (replicate header.capacity 0) (replicate bytes_most 0)) page after
+    write_lines state e l =
         record {
           prints = λ calls end p.
               l.prints calls end p
-              ∙ ap₂ (λ (x : List ℕ) (u : World). written page (lines_of (λ v call. writer_step header.kind x v call) writer_ends u calls)) q is;
+              ∙ ap₂ (λ (s : State) (st : List ℕ). written page (lines_of (λ w call. writer_step header.kind script w call) writer_ends (world_of s st (replicate bytes_most 0)) calls)) e (take-replicate header.capacity 1024 0 capacity_in);
         }
 
     pub read_lines : (r : BufReader) (state : ReaderState) (stock : List ℕ) → Reader.world_of r ≡ Reader.world (take header.capacity (replicate 1024 0)) state → r.script.now ≡ script → r.stock.now ≡ stock → stock ≡ take header.length (drop header.stock t) → state ≡ Buffer.new → Lines t 2 header.count header.first (λ w call. reader_step r.script.now r.stock.now w call) reader_ends (Reader.world_of r) page after → Lines t 2 header.count header.first (λ w call. reader_step script (take header.length (drop header.stock t)) w call) reader_ends (Reader.world (replicate header.capacity 0) Buffer.new) page after

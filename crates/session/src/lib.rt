@@ -39,7 +39,13 @@ fn write_calls(session: &[u8], header: Header, script: &[u32], page: &mut Page<'
     let mut storage = [0u8; CAPACITY_MOST];
     let storage = &mut storage[..header.capacity];
     let mut medium = [0u8; BYTES_MOST];
-    let mut w = BufWriter::new(bufwriter::new(), storage, script, &mut medium);
+    let mut w = BufWriter {
+        state: bufwriter::new(),
+        storage,
+        script,
+        medium: &mut medium,
+        calls: 0,
+    };
     writing::run(session, header, &mut w, page);
 }
 
