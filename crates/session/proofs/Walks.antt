@@ -3,7 +3,6 @@
 use mathlib.Core.Path.{◌≡◌, sym, ap, ◌∙◌}
 use mathlib.Core.List.{List, []}
 use Prim.Native.Nat.{ℕ, ◌+◌, ◌-◌, ◌≤◌, ◌<◌}
-use native.Mathlib.Nat.{sub-zero}
 use native.Mathlib.Omega.{arith}
 use Rattle.std.specs.Prelude.{Err}
 use Rattle.numbers.specs.declared.Fault.{Fault}
@@ -33,10 +32,6 @@ pub record Here {W : Type 0} (t : List ℕ) (kind left place : ℕ) (step : W �
 
 pub record Inv {W : Type 0} (t : List ℕ) (kind count first : ℕ) (step : W → Asked → Step W) (ends : W → List ℕ) (w₀ : W) (page₀ : Page) (w : W) (done place : ℕ) (page : Page) : Type 0 where
   pub here : (calls : List Asked) (end : ℕ) → calls_from t kind count first ≡ listed calls end → Here t kind (count - done) place step ends w page end (written page₀ (lines_of step ends w₀ calls))
-
-pub begins : {W : Type 0} (t : List ℕ) (kind count first : ℕ) (step : W → Asked → Step W) (ends : W → List ℕ) (w₀ w : W) (page : Page) → w ≡ w₀ → Inv t kind count first step ends w₀ page w 0 first page
-begins {W} t kind count first step ends w₀ w page e =
-    record { here = λ calls end q. record { rest = calls; is = rw (sub-zero count) q; same = ap (λ (s : W). written page (lines_of step ends s calls)) e } }
 
 module _ {W : Type 0} (t : List ℕ) (kind count first : ℕ) (step : W → Asked → Step W) (finish : W → List ℕ) (w₀ : W) (page₀ : Page) (w : W) (done place : ℕ) (page : Page) (i : Inv t kind count first step finish w₀ page₀ w done place page) where
   pub again : (call : Call) (next-place : ℕ) (after : Page) (v : W) → call_at t kind place ≡ found call next-place → Steps (step w (asked t call)) page after v → done < count → Inv t kind count first step finish w₀ page₀ v (done + 1) next-place after

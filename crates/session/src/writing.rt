@@ -15,6 +15,8 @@ use line::linewriter;
 use text::{Name, Page};
 use writer::bufwriter;
 
+// The kind is the header's number: 1 is the line writer, any other the plain one. Each of the two
+// calls has its function: with closures for the writers' calls one function would be no shorter.
 fn write(kind: usize, w: &mut BufWriter<'_, '_>, slice: &[u8]) -> Result<usize, Failure>
     ensures lent { Lent w.old w.new }
     ensures told { tells (said_count result) w.new ≡ told_write kind w.old.script.now (world w.old) slice.now }
