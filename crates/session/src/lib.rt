@@ -11,111 +11,125 @@ ghost use Rattle.reader.specs.World.{world};
 ghost use Rattle.reader.specs.Buffer as Reader;
 ghost use Rattle.session.specs.Writing.{writer_step, writer_ends};
 ghost use Rattle.session.specs.Reading.{reader_step, reader_ends};
-ghost use Rattle.session.specs.Steps.{Lines, Good, Ready};
+ghost use Rattle.session.specs.Steps.{Lines, Prints, Rules, Good, Ready};
 ghost use Rattle.session.specs.Session.{Ruled, Shown};
+ghost use Rattle.form.specs.Session.{session_of};
 
+use card::limits::{BYTES_MOST, CAPACITY_MOST, SCRIPT_MOST};
+use flushing::BufWriter;
 use form::{Checked, Header, replies, whole};
 use judge::Verdict;
-use text::lines;
+use reader::{BufReader, State};
+use text::Page;
+use writer::bufwriter;
 
 // The n bytes from a start on, or as many as there are.
 fn part(bytes: &[u8], start: usize, n: usize) -> &[u8]
     ensures { result.now ≡ take n (drop start bytes.now) }
 {
-    let from = card::bytes::least(start, bytes.len());
-    let to = from + card::bytes::least(n, bytes.len() - from);
-    &bytes[from..to]
+    let rest = &bytes[start.min(bytes.len())..];
+    &rest[..n.min(rest.len())]
 }
 
-// A writer's calls, on storage of zeros and a medium of 16,384 bytes.
-fn write_calls(
-    session: &[u8],
-    header: Header,
-    script: &[u32],
-    output: &mut [u8],
-    at: usize,
-) -> usize
+// A writer's calls, on storage of zeros and a medium of zeros.
+fn write_calls(session: &[u8], header: Header, script: &[u32], page: &mut Page<'_>)
     requires { Ready session.now header script.now }
-    ensures { Lines session.now header.kind header.count header.first (λ w call. writer_step header.kind script.now w call) writer_ends (Writer.new (replicate header.capacity 0) (replicate bytes_most 0)) output.old at output.new result }
+    ensures { Lines session.now header.kind header.count header.first (λ w call. writer_step header.kind script.now w call) writer_ends (Writer.new (replicate header.capacity 0) (replicate bytes_most 0)) page.old page.new }
 {
-    let mut storage = [0u8; 1024];
-    let mut medium = [0u8; 16384];
-    writing::run(
-        session,
-        header.kind,
-        header.count,
-        header.first,
+    let mut storage = [0u8; CAPACITY_MOST];
+    let storage = &mut storage[..header.capacity];
+    let mut medium = [0u8; BYTES_MOST];
+    let mut w = BufWriter {
+        state: bufwriter::new(),
+        storage,
         script,
-        &mut storage[..header.capacity],
-        &mut medium,
-        output,
-        at,
-    )
+        medium: &mut medium,
+        calls: 0,
+    };
+    writing::run(session, header, &mut w, page);
 }
 
 // A reader's calls, on storage of zeros.
-fn read_calls(session: &[u8], header: Header, script: &[u32], output: &mut [u8], at: usize) -> usize
+fn read_calls(session: &[u8], header: Header, script: &[u32], page: &mut Page<'_>)
     requires { Ready session.now header script.now }
-    ensures { Lines session.now 2 header.count header.first (λ w call. reader_step script.now (take header.length (drop header.stock session.now)) w call) reader_ends (world (replicate header.capacity 0) Reader.new) output.old at output.new result }
+    ensures { Lines session.now 2 header.count header.first (λ w call. reader_step script.now (take header.length (drop header.stock session.now)) w call) reader_ends (world (replicate header.capacity 0) Reader.new) page.old page.new }
 {
-    let mut storage = [0u8; 1024];
+    let mut storage = [0u8; CAPACITY_MOST];
+    let storage = &mut storage[..header.capacity];
     let stock = part(session, header.stock, header.length);
-    reading::run(
-        session,
-        header.count,
-        header.first,
-        script,
-        stock,
-        &mut storage[..header.capacity],
-        output,
-        at,
-    )
+    let mut r = BufReader::new(State::new(), storage, script, stock);
+    reading::run(session, header, &mut r, page);
 }
 
 // The session line, the calls and the end line.
-fn run_calls(session: &[u8], header: Header, script: &[u32], output: &mut [u8]) -> usize
+fn run_calls(session: &[u8], header: Header, script: &[u32], page: &mut Page<'_>)
     requires { Ready session.now header script.now }
-    ensures { Shown session.now output.old result output.new }
+    ensures { Prints (session_of session.now) page.old page.new }
 {
-    let at = lines::session(output, 0, header.kind, header.capacity);
+    page.session_line(header.kind, header.capacity);
     if header.kind == 2 {
-        return read_calls(session, header, script, output, at);
+        read_calls(session, header, script, page);
+        return;
     }
-    write_calls(session, header, script, output, at)
+    write_calls(session, header, script, page);
 }
 
 // A session without a fault: its replies become the script.
-fn run(session: &[u8], header: Header, output: &mut [u8]) -> usize
+fn run(session: &[u8], header: Header, page: &mut Page<'_>)
     requires { Good session.now header }
-    ensures { Shown session.now output.old result output.new }
+    ensures { Prints (session_of session.now) page.old page.new }
 {
-    let mut script = [0u32; 4096];
+    let mut script = [0u32; SCRIPT_MOST];
     replies::read_replies(session, header.replies, header.script, &mut script);
-    run_calls(session, header, &script[..header.replies], output)
+    run_calls(session, header, &script[..header.replies], page);
+}
+
+// The judge's line of a trace.
+fn rule(trace: &[u8], page: &mut Page<'_>)
+    ensures { Rules trace.now page.old page.new }
+{
+    match judge::judge(trace) {
+        Ok(Verdict::Possible) => page.judge_possible(),
+        Ok(Verdict::Impossible) => page.judge_impossible(),
+        Err(fault) => page.judge_refused(fault.place),
+    }
+}
+
+// The text of a session.
+fn print(session: &[u8], page: &mut Page<'_>)
+    ensures { Prints (session_of session.now) page.old page.new }
+{
+    match whole::check(session) {
+        Ok(Checked::Session(header)) => run(session, header, page),
+        Ok(Checked::Traced(start)) => rule(part(session, start, session.len()), page),
+        Err(fault) => page.session_refused(fault.place),
+    }
 }
 
 // The judge's line of a trace, at the front of the output and cut where the output ends; the
 // answer is where it ends.
+#[tactic(auto, using(crate::proofs::Shows::ruled), unfolding(text::specs::Printed::written))]
 pub fn stackglow_judge(trace: &[u8], output: &mut [u8]) -> usize
     ensures { Ruled trace.now output.old result output.new }
 {
-    let verdict = judge::judge(trace);
-    match verdict {
-        Verdict::Possible => lines::judge_possible(output, 0),
-        Verdict::Impossible => lines::judge_impossible(output, 0),
-        Verdict::Refused(place) => lines::judge_refused(output, 0, place),
-    }
+    let mut page = Page {
+        bytes: output,
+        at: 0,
+    };
+    rule(trace, &mut page);
+    page.at
 }
 
 // The text of a session, at the front of the output and cut where the output ends; the answer is
 // where it ends.
+#[tactic(auto, using(crate::proofs::Shows::shown), unfolding(text::specs::Printed::written))]
 pub fn stackglow_session(session: &[u8], output: &mut [u8]) -> usize
     ensures { Shown session.now output.old result output.new }
 {
-    let checked = whole::check(session);
-    match checked {
-        Checked::Session(header) => run(session, header, output),
-        Checked::Traced(start) => stackglow_judge(part(session, start, session.len()), output),
-        Checked::Fault(place) => lines::session_refused(output, 0, place),
-    }
+    let mut page = Page {
+        bytes: output,
+        at: 0,
+    };
+    print(session, &mut page);
+    page.at
 }

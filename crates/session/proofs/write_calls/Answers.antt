@@ -6,8 +6,8 @@ use Rattle.session.proofs.write_calls.Goals as goal
 pub slice_bounds-storage-end : goal.slice_bounds-storage-end
 slice_bounds-storage-end c = capacity_in _ _ _ c.requires
 
-pub slice_bounds-run-end : goal.slice_bounds-run-end
-slice_bounds-run-end c = zeros_long _ 1024 (capacity_in _ _ _ c.requires)
+pub slice_bounds-storage-end-2 : goal.slice_bounds-storage-end-2
+slice_bounds-storage-end-2 c = zeros_long _ 1024 (capacity_in _ _ _ c.requires)
 
 pub returns : goal.returns
-returns c = write_lines _ _ _ c.requires _ _ _ _ c.run.ensures
+returns c = write_lines _ _ _ c.requires _ _ c.new.result c.new.ensures c.run.ensures
