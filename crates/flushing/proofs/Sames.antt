@@ -2,6 +2,7 @@
 -- set of lent bytes.
 -- Assumes nothing.
 use mathlib.Core.Path.{◌≡◌, sym, ap, ◌∙◌}
+use mathlib.Core.Bool.{Bool}
 use mathlib.Core.List.{List}
 use Prim.Native.Nat.{ℕ, ◌-◌}
 use lib.ListN.{length, drop}
@@ -9,12 +10,12 @@ use Rattle.std.specs.Prelude.{Result}
 use Rattle.laws.specs.Put.{put}
 use Rattle.card.specs.declared.Failure.{Failure}
 use Rattle.card.specs.declared.limits.Numbers.{Numbers}
-use Rattle.card.specs.Answers.{Said, said_done}
+use Rattle.card.specs.Answers.{Answer, Said, said, said_done}
 use Rattle.card.proofs.Saids.{done_same}
 use Rattle.card.proofs.Sames.{one}
 use Rattle.flushing.specs.declared.BufWriter.{BufWriter}
 use Rattle.flushing.specs.declared.Sent.{Sent}
-use Rattle.flushing.specs.World.{Told, Lent, tells, reported, world, numbers}
+use Rattle.flushing.specs.World.{Told, Lent, tells, reported, is_ok, world, numbers}
 use Rattle.flushing.specs.Send.{send_from}
 use Rattle.flushing.specs.Flush.{flush_buf_call}
 
@@ -60,3 +61,7 @@ send_all_one script source m used out r q x y e f =
 
 pub numbers_one : (w : BufWriter) (r q : Numbers) → r ≡ numbers w → q ≡ numbers w → r ≡ q
 numbers_one w = one (numbers w)
+
+-- whether an answer is an ok: std's `is_ok`
+pub succeeded_one : (a : Answer) (r q : Bool) → r ≡ is_ok (said a) → q ≡ is_ok (said a) → r ≡ q
+succeeded_one a = one (is_ok (said a))

@@ -34,7 +34,7 @@ pub has_first : (l : List Bool) (b : Bool) (k : ℕ) → 0 < length l → Has (s
 has_first l b k h = grind (arith, places, get_or-set_same, cases_eq k 0, or_cases, or_left, or_right)
 
 -- the flags from 1 to `most`, all set
-pub has_filled : (l ys : List Bool) (most k : ℕ) → most < length l → ys ≡ replicate (length (take (most + 1 - 1) (drop 1 l))) true → Has (put_mid 1 (most + 1 - 1) l ys) k ↔ (Has l k ⊎ Between 1 most k)
+pub has_filled : (l ys : List Bool) (most k : ℕ) → most < length l → ys ≡ replicate (length (take (most + 1 - 1) (drop 1 l))) true → Has (put_mid 1 (most + 1 - 1) l ys) k ↔ (Has l k ⊎ Between 1 (most + 1) k)
 has_filled l ys most k h e = grind (arith, places)
 
 -- ---- flags that land

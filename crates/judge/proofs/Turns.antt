@@ -81,7 +81,7 @@ none_stored C call m old e = record { at = λ k. ((λ x. absurd (none_set m k x)
 pub Kinds : ℕ → TracedCall → List Bool → ℕ → ℕ → Type 0
 Kinds C call old most k =
     (((stores C call ≡ true) × Lands C call.length (length old) old k) ⊎ ((empties C call ≡ true) × (k ≡ 0)))
-    ⊎ ((stops C call most ≡ true) × Between 1 most k)
+    ⊎ ((stops C call most ≡ true) × Between 1 (most + 1) k)
 
 -- from a flag that lands
 land_step : (C : ℕ) (call : TracedCall) (h k : ℕ) → stores C call ≡ true → landing C call.length h ≡ k → StepOf C h call k
@@ -103,15 +103,15 @@ empty_step C call h k e z = by call.flush e
         WriteStep.direct (leb-true C call.length x.0) (direct_of call.length call.claim x.1) z
 
 -- a stopped flush
-stop_step : (C : ℕ) (call : TracedCall) (most k : ℕ) → stops C call most ≡ true → Between 1 most k → StepOf C most call k
+stop_step : (C : ℕ) (call : TracedCall) (most k : ℕ) → stops C call most ≡ true → Between 1 (most + 1) k → StepOf C most call k
 stop_step C call most k e p = by call.flush (and_parts (halts call.claim) _ e).1
   where
     stopped : Stopped (claimed call.claim)
     stopped = stopped_of call.claim (and_parts (halts call.claim) _ e).0
 
     by : (b : Bool) → (b || ltb C (most + call.length)) ≡ true → pick b (FlushStep most (claimed call.claim) k) (WriteStep C most call.length (claimed call.claim) k)
-    by true q = FlushStep.stopped stopped (omega (arith, p.least)) p.most
-    by false q = WriteStep.stopped (ltb-true C (most + call.length) q) stopped (omega (arith, p.least)) p.most
+    by true q = FlushStep.stopped stopped (omega (arith, p.least)) (omega (arith, p.most))
+    by false q = WriteStep.stopped (ltb-true C (most + call.length) q) stopped (omega (arith, p.least)) (omega (arith, p.most))
 
 kinds_lead : (C : ℕ) (call : TracedCall) (old : List Bool) (most k : ℕ) → Highest old most → Kinds C call old most k → Leads C call old k
 unfolding Kinds

@@ -33,7 +33,7 @@ pub record Lands (C n most : ℕ) (flags : List Bool) (k : ℕ) : Type 0 where
 
 pub record Between (low high k : ℕ) : Type 0 where
   pub least : low ≤ k
-  pub most : k ≤ high
+  pub most : k < high
 
 -- whether a claim is an ok of the whole slice
 abbrev pub whole : ℕ → Claim → Bool
