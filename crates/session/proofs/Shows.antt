@@ -15,26 +15,22 @@ use Rattle.reader.specs.declared.State.{State as ReaderState}
 use Rattle.reader.specs.declared.BufReader.{BufReader}
 use Rattle.reader.specs.World as Reader
 use Rattle.reader.specs.Buffer as Buffer
-use Rattle.std.specs.Prelude.{Result, Ok, Err}
-use Rattle.numbers.specs.declared.Fault.{Fault}
-use Rattle.trace.specs.Trace.{trace_of}
-use Rattle.judge.specs.declared.Verdict.{Verdict}
-use Rattle.judge.specs.Judge.{Judged}
+use Rattle.std.specs.Prelude.{Ok}
 use Rattle.form.specs.declared.Header.{Header}
-use Rattle.form.specs.declared.Checked.TheVariants.{Session, Traced}
+use Rattle.form.specs.declared.Checked.TheVariants.{Traced}
 use Rattle.form.specs.Session.{session, session_of, checked}
 use Rattle.form.specs.Replies.{replies_in}
-use Rattle.form.proofs.Rests.{held, held_trace, refused, whole, whole_trace}
+use Rattle.form.proofs.Rests.{held_trace, whole, whole_trace}
 use Rattle.form.proofs.Filling.{filled}
 use Rattle.text.specs.declared.Page.{Page}
 use Rattle.text.specs.Printed.{Printed, printed, written}
-use Rattle.text.specs.Lines.{session_line, session_refused}
+use Rattle.text.specs.Lines.{session_line}
 use Rattle.text.proofs.Prints.{then, length_printed}
 use Rattle.text.proofs.Shows.{place_within}
 use Rattle.session.specs.Lines.{lines_of}
 use Rattle.session.specs.Writing.{writer_step, writer_ends, writer_text}
 use Rattle.session.specs.Reading.{reader_step, reader_ends, reader_text}
-use Rattle.session.specs.Session.{verdict_line, Ruled, Shown}
+use Rattle.session.specs.Session.{Ruled, Shown}
 use Rattle.session.specs.Steps.{Lines, Prints, Rules, Good, Ready}
 use Rattle.std.proofs.lemmas.List.{take-replicate}
 
@@ -115,17 +111,7 @@ module _ (t : List ℕ) (header : Header) (g : Good t header) (lent script : Lis
 pub replies_in_lem : (t : List ℕ) (header : Header) (g : Good t header) (k : ℕ) → k ≡ 4096 → header.replies ≤ k
 replies_in_lem t header g k e = let m = (whole t header g.replies g.stock g.calls g.is).replies_most in omega arith
 
--- ---- the judge's line
-
-pub rules_by : (trace : List ℕ) (page after : Page) (verdict v : Result Verdict Fault) → Judged (trace_of trace) verdict → verdict ≡ v → after ≡ written page (verdict_line v) → Rules trace page after
-rules_by trace page after verdict v j e q = record { text = verdict_line v; right = record { verdict = verdict; judged = j; is = ap (λ (z : Result Verdict Fault). verdict_line z) (sym e) }; is = q }
-
 -- ---- the whole
-
-pub good : (t : List ℕ) (header : Header) → Ok (Session header) ≡ checked (session_of t) → Good t header
-good t header e =
-    let h = held (session_of t) header e in
-    record { replies = h.replies; stock = h.stock; calls = h.calls; is = h.is }
 
 pub prints_trace : (t : List ℕ) (start : ℕ) (trace : List ℕ) (page after : Page) → Ok (Traced start) ≡ checked (session_of t) → trace ≡ take (length t) (drop start t) → Rules trace page after → Prints (session_of t) page after
 prints_trace t start trace page after e p u =
@@ -135,9 +121,6 @@ prints_trace t start trace page after e p u =
     let same : trace ≡ h.trace = p ∙ take_all (length t) (drop start t) long ∙ sym w.is in
     let right = rw same at u.right in
     record { text = u.text; right = rw h.is right; is = u.is }
-
-pub prints_fault : (t : List ℕ) (f : Fault) (page after : Page) → Err f ≡ checked (session_of t) → after ≡ written page (session_refused f.place) → Prints (session_of t) page after
-prints_fault t f page after e p = record { text = session_refused f.place; right = rw (refused (session_of t) f.place e) refl; is = p }
 
 -- ---- the output that is lent as a page
 

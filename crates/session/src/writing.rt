@@ -17,6 +17,7 @@ use writer::bufwriter;
 
 // The kind is the header's number: 1 is the line writer, any other the plain one. Each of the two
 // calls has its function: with closures for the writers' calls one function would be no shorter.
+#[tactic(auto, using(crate::proofs::WriteSteps::line_write_is, crate::proofs::WriteSteps::write_is))]
 fn write(kind: usize, w: &mut BufWriter<'_, '_>, slice: &[u8]) -> Result<usize, Failure>
     ensures lent { Lent w.old w.new }
     ensures told { tells (said_count result) w.new ≡ told_write kind w.old.script.now (world w.old) slice.now }
@@ -27,6 +28,7 @@ fn write(kind: usize, w: &mut BufWriter<'_, '_>, slice: &[u8]) -> Result<usize, 
     bufwriter::write(w, slice)
 }
 
+#[tactic(auto, using(crate::proofs::WriteSteps::line_write_all_is, crate::proofs::WriteSteps::write_all_is))]
 fn write_all(kind: usize, w: &mut BufWriter<'_, '_>, slice: &[u8]) -> Result<(), Failure>
     ensures lent { Lent w.old w.new }
     ensures told { tells (said_done result) w.new ≡ told_write_all kind w.old.script.now (world w.old) slice.now }

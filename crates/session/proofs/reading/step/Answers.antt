@@ -14,12 +14,6 @@ use Rattle.session.proofs.Offsets.{seen}
 use Rattle.session.proofs.ReadSteps.{same_step, call_is, idle}
 use Rattle.session.proofs.reading.step.Goals as goal
 
-pub read-requires : goal.read-requires
-read-requires c = rw c.in-Read.is at c.requires
-
-pub offset-requires : goal.offset-requires
-offset-requires c = rw c.in-Seek.is at c.requires
-
 pub returns-in-Read-clause-steps : goal.returns-in-Read-clause-steps
 unfolding reader_step
 returns-in-Read-clause-steps c = same_step _ _ _ _ _ (ap (λ (x : Call). reader_step c.args.r.now.script.now c.args.r.now.stock.now (world_of c.args.r.now) (asked c.args.session.now x)) c.in-Read.is) c.read.ensures.steps
