@@ -1,4 +1,5 @@
-// Copies of bytes.
+// Copies of bytes. `least` and `left` are std's `min` and `saturating_sub`; they stand because they
+// are public.
 ghost use Rattle.std.specs.Prelude.{◌≡◌, ◌+◌, ◌-◌, ◌≤◌, ◌<◌, min, length, take, drop};
 ghost use Rattle.laws.specs.Put.{put};
 

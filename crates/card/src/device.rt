@@ -5,7 +5,7 @@ ghost use Rattle.card.specs.Device.{reply_of, at_most, exchange, moves};
 
 use crate::{DeviceError, Exchange, Reply, bytes};
 
-// A number of the script as a reply.
+// A number of the script as a reply. No `From`, since a reply is std's own type.
 fn reply_of(n: u32) -> Reply
     ensures { result ≡ reply_of n }
 {

@@ -70,7 +70,8 @@ impl Numbers {
         Ok(())
     }
 
-    // The number of the refusal, 0 for none. `own` is what the call itself would refuse.
+    // The number of the refusal, 0 for none. `own` is what the call itself would refuse: a number,
+    // since this is promised for any.
     pub fn refusal(self, own: u32) -> u32
         ensures { result ≡ refusal_of self.capacity self.script self.device self.pos self.filled self.moved self.used own }
     {

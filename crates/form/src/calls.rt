@@ -9,7 +9,8 @@ use numbers::Fault;
 // The largest size of a peek, a consume or a seek: the largest number below 2^32.
 const SIZE_MOST: usize = 4294967295;
 
-// A writer's call, whose number stands at `at` and whose rest at `next`.
+// A writer's call, whose number stands at `at` and whose rest at `next`: the number is a call from
+// here on.
 #[tactic(auto, using(numbers::proofs::Most::length_within), unfolding(crate::specs::Calls::writer_call, crate::specs::Calls::write_at, crate::specs::Calls::write_all_at, crate::specs::Calls::length_at))]
 fn read_writer(
     session: &[u8],

@@ -9,8 +9,9 @@ pub mod replies;
 pub mod whole;
 
 // One call of a session. The bytes of a write are the session's, from a start on, so many as the
-// length says: `Write(start, length)`. A seek's first value is true for back, false for on: direction
-// and size stay the two numbers that the session has, and who seeks makes an offset of them.
+// length says: `Write(start, length)`, the numbers that `calls::read_call` promises. A seek's first
+// value is true for back, false for on: direction and size stay the two numbers that the session has,
+// and who seeks makes an offset of them.
 #[derive(Clone, Copy, Debug, PartialEq, Eq)]
 pub enum Call {
     Write(usize, usize),
@@ -26,7 +27,8 @@ pub enum Call {
 // What a session holds beside its lists: the kind (0 writer, 1 line writer, 2 reader) and the
 // capacity; how many replies there are and where the first stands; where the stock's bytes stand
 // and how many they are (none, after the replies, for a writer); how many calls there are and
-// where the first stands. The kind stays the number that `calls::read_call` takes.
+// where the first stands. The kind stays the number that `calls::read_call` takes, and the rest places
+// and lengths, since nothing is kept of the calls.
 #[derive(Clone, Copy, Debug, PartialEq, Eq)]
 pub struct Header {
     pub kind: usize,

@@ -11,7 +11,7 @@ pub const SESSION_MOST: usize = 32768;
 
 pub const CALLS_MOST: usize = 1024;
 
-// For a reader the stock; no bytes for a writer.
+// For a reader the stock; no bytes for a writer. The kind is the number that `Header` keeps.
 #[tactic(auto, unfolding(crate::specs::Session::stock_of, crate::specs::Calls::length_at))]
 fn read_stock(session: &[u8], kind: usize, at: usize) -> Result<(usize, usize), Fault>
     ensures { result ≡ stock_of session.now kind at }

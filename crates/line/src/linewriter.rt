@@ -84,7 +84,7 @@ fn send_lines(w: &mut BufWriter<'_, '_>, slice: &[u8], e: usize) -> Result<usize
     Ok(f + kept)
 }
 
-// ---- a flush of the buffer, and then the rest
+// ---- a flush of the buffer, and then the rest (`Sound` stands in clauses as in `writer`)
 
 fn flush_then_lines(w: &mut BufWriter<'_, '_>, slice: &[u8], e: usize) -> Result<usize, Failure>
     requires sound { Sound w.old.script.now (world w.old) }

@@ -18,6 +18,7 @@ const GROUPS: usize = 5;
 const TOP: usize = 15;
 
 // A number of at most `groups` groups, the last of these at most `top`, and the place after it.
+// `left` is no index: the definition counts it down beside the weight.
 #[tactic(auto, using(crate::proofs::Groups::turns))]
 fn read_groups(bytes: &[u8], at: usize, groups: usize, top: usize) -> Result<(usize, usize), Fault>
     requires { Width groups top }

@@ -46,6 +46,7 @@ pub struct BufReader<'a> {
     pub calls: usize,
 }
 
+// Alike to `limits::check_length` but for limit and refusal: with both as parameters no shorter.
 fn check_peek(capacity: usize, n: usize) -> Result<(), Refusal>
     ensures { refusal_by result ≡ peek_refusal capacity n }
 {
@@ -112,6 +113,7 @@ impl BufReader<'_> {
         Ok(self.fill()?)
     }
 
+    // This and `seek_relative` are one call of the state's: a closure for it would be no plainer.
     pub fn consume(&mut self, amt: usize) -> Result<(), Failure>
         ensures lent { Lent self.old self.new }
         ensures call { called (said_done result) self.new ≡ consume self.old.script.now self.old.stock.now amt (world_of self.old) }

@@ -31,57 +31,73 @@ fn part(bytes: &[u8], start: usize, n: usize) -> &[u8]
     &rest[..n.min(rest.len())]
 }
 
-// A writer's calls, on storage of zeros and a medium of zeros.
-fn write_calls(session: &[u8], header: Header, script: &[u32], page: &mut Page<'_>)
-    requires { Ready session.now header script.now }
-    ensures { Lines session.now header.kind header.count header.first (λ w call. writer_step header.kind script.now w call) writer_ends (Writer.new (replicate header.capacity 0) (replicate bytes_most 0)) page.old page.new }
-{
-    let mut storage = [0u8; CAPACITY_MOST];
-    let storage = &mut storage[..header.capacity];
-    let mut medium = [0u8; BYTES_MOST];
-    let mut w = BufWriter {
-        state: bufwriter::new(),
-        storage,
-        script,
-        medium: &mut medium,
-        calls: 0,
-    };
-    writing::run(session, header, &mut w, page);
+// A session without a fault, and its replies as the script. That it is so stands in clauses and in
+// no ghost field, since `Ready` has the stock and the calls that it speaks of.
+#[derive(Drop)]
+struct Session<'a> {
+    bytes: &'a [u8],
+    header: Header,
+    script: &'a [u32],
 }
 
-// A reader's calls, on storage of zeros.
-fn read_calls(session: &[u8], header: Header, script: &[u32], page: &mut Page<'_>)
-    requires { Ready session.now header script.now }
-    ensures { Lines session.now 2 header.count header.first (λ w call. reader_step script.now (take header.length (drop header.stock session.now)) w call) reader_ends (world (replicate header.capacity 0) Reader.new) page.old page.new }
-{
-    let mut storage = [0u8; CAPACITY_MOST];
-    let storage = &mut storage[..header.capacity];
-    let stock = part(session, header.stock, header.length);
-    let mut r = BufReader::new(State::new(), storage, script, stock);
-    reading::run(session, header, &mut r, page);
-}
-
-// The session line, the calls and the end line.
-fn run_calls(session: &[u8], header: Header, script: &[u32], page: &mut Page<'_>)
-    requires { Ready session.now header script.now }
-    ensures { Prints (session_of session.now) page.old page.new }
-{
-    page.session_line(header.kind, header.capacity);
-    if header.kind == 2 {
-        read_calls(session, header, script, page);
-        return;
+impl Session<'_> {
+    // A writer's calls, on storage of zeros and a medium of zeros.
+    fn write_calls(&self, page: &mut Page<'_>)
+        requires { Ready self.now.bytes.now self.now.header self.now.script.now }
+        ensures { Lines self.now.bytes.now self.now.header.kind self.now.header.count self.now.header.first (λ w call. writer_step self.now.header.kind self.now.script.now w call) writer_ends (Writer.new (replicate self.now.header.capacity 0) (replicate bytes_most 0)) page.old page.new }
+    {
+        let mut storage = [0u8; CAPACITY_MOST];
+        let storage = &mut storage[..self.header.capacity];
+        let mut medium = [0u8; BYTES_MOST];
+        let mut w = BufWriter {
+            state: bufwriter::new(),
+            storage,
+            script: self.script,
+            medium: &mut medium,
+            calls: 0,
+        };
+        writing::run(self.bytes, self.header, &mut w, page);
     }
-    write_calls(session, header, script, page);
+
+    // A reader's calls, on storage of zeros.
+    fn read_calls(&self, page: &mut Page<'_>)
+        requires { Ready self.now.bytes.now self.now.header self.now.script.now }
+        ensures { Lines self.now.bytes.now 2 self.now.header.count self.now.header.first (λ w call. reader_step self.now.script.now (take self.now.header.length (drop self.now.header.stock self.now.bytes.now)) w call) reader_ends (world (replicate self.now.header.capacity 0) Reader.new) page.old page.new }
+    {
+        let mut storage = [0u8; CAPACITY_MOST];
+        let storage = &mut storage[..self.header.capacity];
+        let stock = part(self.bytes, self.header.stock, self.header.length);
+        let mut r = BufReader::new(State::new(), storage, self.script, stock);
+        reading::run(self.bytes, self.header, &mut r, page);
+    }
+
+    // The session line, the calls and the end line.
+    fn run_calls(&self, page: &mut Page<'_>)
+        requires { Ready self.now.bytes.now self.now.header self.now.script.now }
+        ensures { Prints (session_of self.now.bytes.now) page.old page.new }
+    {
+        page.session_line(self.header.kind, self.header.capacity);
+        if self.header.kind == 2 {
+            self.read_calls(page);
+            return;
+        }
+        self.write_calls(page);
+    }
 }
 
 // A session without a fault: its replies become the script.
-fn run(session: &[u8], header: Header, page: &mut Page<'_>)
-    requires { Good session.now header }
-    ensures { Prints (session_of session.now) page.old page.new }
+fn run(bytes: &[u8], header: Header, page: &mut Page<'_>)
+    requires { Good bytes.now header }
+    ensures { Prints (session_of bytes.now) page.old page.new }
 {
     let mut script = [0u32; SCRIPT_MOST];
-    replies::read_replies(session, header.replies, header.script, &mut script);
-    run_calls(session, header, &script[..header.replies], page);
+    replies::read_replies(bytes, header.replies, header.script, &mut script);
+    let session = Session {
+        bytes,
+        header,
+        script: &script[..header.replies],
+    };
+    session.run_calls(page);
 }
 
 // The judge's line of a trace.

@@ -9,7 +9,7 @@ use card::Answer;
 
 #[tactic(auto, using(crate::proofs::Prints::then), unfolding(crate::specs::Answers::answer_of, crate::specs::Lines::session_line, crate::specs::Lines::call_of, crate::specs::Lines::writer_calls, crate::specs::Lines::writer_line, crate::specs::Lines::reader_line, crate::specs::Lines::writer_end, crate::specs::Lines::reader_end, crate::specs::Lines::judge_possible, crate::specs::Lines::judge_impossible, crate::specs::Lines::judge_refused, crate::specs::Lines::session_refused))]
 impl Page<'_> {
-    // `session K capacity C`
+    // `session K capacity C`; K is printed for any number.
     pub fn session_line(&mut self, kind: usize, capacity: usize)
         ensures { self.new ≡ written self.old (session_line kind capacity) }
     {

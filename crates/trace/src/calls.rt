@@ -6,7 +6,7 @@ use crate::{TracedCall, claims};
 use card::{bytes, limits};
 use numbers::Fault;
 
-// A call with its claim: `length` bytes from `start` on.
+// A call with its claim: `length` bytes from `start` on. The flag is the call's (`TracedCall`).
 #[tactic(auto, unfolding(crate::specs::Calls::traced))]
 fn read_rest(
     trace: &[u8],

@@ -29,7 +29,7 @@ fn read_error(trace: &[u8], at: usize) -> Result<(Claim, usize), Fault>
     Ok((Claim::Error(code as u32), next))
 }
 
-// The claimed answer at a place, and the place after it.
+// The claimed answer at a place, and the place after it. The flag is the call's (`TracedCall`).
 #[tactic(auto, unfolding(crate::specs::Claims::claim_of, crate::specs::Claims::claim_at))]
 pub(crate) fn read_claim(trace: &[u8], flush: bool, at: usize) -> Result<(Claim, usize), Fault>
     ensures { result ≡ claim_at trace.now flush at }

@@ -18,7 +18,8 @@ pub enum Claim {
 }
 
 // One call of a trace. The bytes of a write are the trace's `length` bytes from place `start` on;
-// a flush has none. It carries its claimed answer. `next` is the place after it.
+// a flush has none. It carries its claimed answer. `next` is the place after it. All are places and
+// lengths, as `calls::read_call` promises them.
 // The flag stays beside the length: whoever counts bytes takes the length of any call, and whoever
 // judges a claim the flag, so an enum with the bytes inside would be matched for either.
 #[derive(Clone, Copy, Debug, PartialEq, Eq)]
@@ -31,7 +32,8 @@ pub struct TracedCall {
 }
 
 // What a whole trace holds beside its calls: the capacity, how many calls there are and where the
-// first stands, and where the card's bytes stand and how many they are.
+// first stands, and where the card's bytes stand and how many they are. Places, since nothing is kept
+// of the calls.
 #[derive(Clone, Copy, Debug, PartialEq, Eq)]
 pub struct Header {
     pub capacity: usize,

@@ -43,6 +43,9 @@ pub fn device_write_all(w: &mut BufWriter<'_, '_>, slice: &[u8]) -> Result<(), F
 
 // ---- a slice that does not fit with room to spare
 
+// `Sound` is asked for by clauses: a type around the lent writer would have to be proved again
+// wherever the state changes, also where a call fails.
+
 // The slice is kept behind the held bytes.
 fn store(w: &mut BufWriter<'_, '_>, slice: &[u8])
     requires { w.old.state.held + length slice.now ≤ length w.old.storage.now }

@@ -8,8 +8,8 @@ use Rattle.session.proofs.run.Goals as goal
 pub slice_bounds-script-end : goal.slice_bounds-script-end
 slice_bounds-script-end c = replies_in_lem _ _ c.requires _ (c.read_replies.auto.script ∙ (length-replicate {A = ℕ} 4096 0))
 
-pub slice_bounds-run_calls-end : goal.slice_bounds-run_calls-end
-slice_bounds-run_calls-end c = these_long _ _ c.requires (replicate {A = ℕ} 4096 0) _ (length-replicate {A = ℕ} 4096 0) c.read_replies.ensures
+pub slice_bounds-session-end : goal.slice_bounds-session-end
+slice_bounds-session-end c = these_long _ _ c.requires (replicate {A = ℕ} 4096 0) _ (length-replicate {A = ℕ} 4096 0) c.read_replies.ensures
 
 pub run_calls-requires : goal.run_calls-requires
 run_calls-requires c = ready _ _ c.requires (replicate {A = ℕ} 4096 0) _ (length-replicate {A = ℕ} 4096 0) c.read_replies.ensures

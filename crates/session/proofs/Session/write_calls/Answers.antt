@@ -1,7 +1,7 @@
--- `session::write_calls` meets its contract. Assumes nothing.
+-- `session::Session::write_calls` meets its contract. Assumes nothing.
 use Rattle.session.proofs.Offsets.{zeros_long}
 use Rattle.session.proofs.Shows.{capacity_in, write_lines}
-use Rattle.session.proofs.write_calls.Goals as goal
+use Rattle.session.proofs.Session.write_calls.Goals as goal
 
 pub slice_bounds-storage-end : goal.slice_bounds-storage-end
 slice_bounds-storage-end c = capacity_in _ _ _ c.requires

@@ -1,10 +1,10 @@
--- `session::read_calls` meets its contract. Assumes nothing.
+-- `session::Session::read_calls` meets its contract. Assumes nothing.
 use mathlib.Core.Path.{ap}
 use Rattle.reader.specs.declared.BufReader.{BufReader}
 use Rattle.reader.specs.World.{world_of}
 use Rattle.session.proofs.Offsets.{zeros_long}
 use Rattle.session.proofs.Shows.{capacity_in, read_lines}
-use Rattle.session.proofs.read_calls.Goals as goal
+use Rattle.session.proofs.Session.read_calls.Goals as goal
 
 pub slice_bounds-storage-end : goal.slice_bounds-storage-end
 slice_bounds-storage-end c = capacity_in _ _ _ c.requires
