@@ -17,7 +17,7 @@ const INPUT_ROOM: usize = 65536;
 // More than the longest answer and its length.
 const OUTPUT_ROOM: usize = 2400000;
 
-// More requests than any run has.
+// More requests than any run has: a loop that need not end would want a handle.
 const REQUESTS_MOST: u64 = 1000000000000;
 
 // Zeros. Their length is promised, so that no proof counts them.

@@ -19,7 +19,8 @@ fn zeros<const N: usize>() -> [u8; N]
     [0; N]
 }
 
-// Reads until the room is full or the input ends; the answer is how many bytes came.
+// Reads until the room is full or the input ends; the answer is how many bytes came. The library's
+// read_to_end fills a Vec, and there is no heap here.
 fn read_full<R: Read>(input: &mut R, room: &mut [u8]) -> io::Result<usize>
     ensures { IfOk result (λ n. n ≤ length room.new) }
 {
