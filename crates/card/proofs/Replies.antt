@@ -1,13 +1,17 @@
 -- The laws of one call of the device.
 -- Assumes nothing.
 use mathlib.Core.Path.{◌≡◌, refl, sym, ap, ◌∙◌}
+use mathlib.Core.Bool.{true, false}
 use mathlib.Core.List.{List, [], ◌∷◌}
 use Prim.Native.Nat.{ℕ, ◌+◌, ◌-◌, ◌≤◌, ◌<◌, min}
 use native.Mathlib.Nat.{add-zero}
 use native.Mathlib.Omega.{arith}
 use lib.ListN.{length, take, drop, get_or, length-drop, drop_of_length-le}
 use lib.Seq.{drop-cons}
+use lib.Dec.{ltb}
 use borrow.Author.Tests.{le-leb, lt-leb, ne_eqb}
+use Rattle.std.proofs.lemmas.Bool.{ltb-true, ltb-false}
+use Rattle.std.proofs.lemmas.Grind.{get_or_default_zero}
 use Rattle.laws.proofs.Parts.{rest, drop_least}
 use Rattle.laws.specs.Put.{put}
 use Rattle.std.specs.Prelude.{Ok, Err}
@@ -24,6 +28,15 @@ at_end script used most h = rw (drop_of_length-le script h) (rw add-zero refl)
 pub at_reply : (script : List ℕ) (used most : ℕ) (r k : Reply) → k ≡ at_most most r → r ≡ reply_of (get_or script used 0) → used < length script → record { reply = k; used = used + 1 } ≡ exchange (drop used script) used most
 unfolding exchange next takes
 at_reply script used most r k q e h = rw (drop-cons script used 0 h) (rw q (rw e refl))
+
+-- the same of what a look at the script's place gave, if anything
+pub past_end : (script : List ℕ) (used most : ℕ) → false ≡ ltb used (length script) → record { reply = error 0; used = used } ≡ exchange (drop used script) used most
+past_end script used most h = at_end script used most (ltb-false used (length script) (sym h))
+
+pub at_number : (script : List ℕ) (used most n : ℕ) (r k : Reply) → k ≡ at_most most r → r ≡ reply_of n → (true ≡ ltb used (length script)) × (n ≡ get_or script used n) → record { reply = k; used = used + 1 } ≡ exchange (drop used script) used most
+at_number script used most n r k q e h =
+    let inside : used < length script = ltb-true used (length script) (sym h.0) in
+    at_reply script used most r k q (e ∙ ap reply_of (h.1 ∙ get_or_default_zero script used n inside)) inside
 
 -- a number of the script by its three ranges
 pub accepts : (n : ℕ) → n ≤ 65535 → accept n ≡ reply_of n

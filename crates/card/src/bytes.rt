@@ -1,5 +1,5 @@
-// Copies of bytes. `least` and `left` are std's `min` and `saturating_sub`; they stand because they
-// are public.
+// Copies of bytes. std's own copies ask for lengths that fit; these promise every byte for all.
+// `least` and `left` are std's `min` and `saturating_sub`, and stand because they are public.
 ghost use Rattle.std.specs.Prelude.{◌≡◌, ◌+◌, ◌-◌, ◌≤◌, ◌<◌, min, length, take, drop};
 ghost use Rattle.laws.specs.Put.{put};
 

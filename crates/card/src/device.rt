@@ -16,7 +16,7 @@ fn reply_of(n: u32) -> Reply
     }
 }
 
-// The bytes that move at a reply.
+// The bytes that move at a reply: std's `unwrap_or`, which stands by its name because it is public.
 pub fn moved(reply: Reply) -> usize
     ensures { result ≡ moves reply }
 {
@@ -34,15 +34,14 @@ pub fn cut(reply: Reply, most: usize) -> Reply
 fn ask(script: &[u32], used: usize, most: usize) -> Exchange
     ensures { result ≡ exchange (drop used script.now) used most }
 {
-    if script.len() <= used {
+    let Some(n) = script.get(used) else {
         return Exchange {
             reply: Err(DeviceError::Error(0)),
             used,
         };
-    }
-    let reply = reply_of(script[used]);
+    };
     Exchange {
-        reply: cut(reply, most),
+        reply: cut(reply_of(*n), most),
         used: used + 1,
     }
 }
@@ -51,8 +50,8 @@ fn ask(script: &[u32], used: usize, most: usize) -> Exchange
 pub fn write(script: &[u32], used: usize, offered: &[u8], medium: &mut [u8], out: usize) -> Exchange
     ensures { (result ≡ exchange (drop used script.now) used (min (length offered.now) (length medium.old - out))) × (medium.new ≡ put medium.old out offered.now (moves result.reply)) }
 {
-    let room = bytes::left(medium.len(), out);
-    let e = ask(script, used, bytes::least(offered.len(), room));
+    let room = medium.len().saturating_sub(out);
+    let e = ask(script, used, offered.len().min(room));
     bytes::copy(medium, out, offered, moved(e.reply));
     e
 }
@@ -61,9 +60,8 @@ pub fn write(script: &[u32], used: usize, offered: &[u8], medium: &mut [u8], out
 pub fn read(script: &[u32], used: usize, room: &mut [u8], stock: &[u8], taken: usize) -> Exchange
     ensures { (result ≡ exchange (drop used script.now) used (min (length room.old) (length stock.now - taken))) × (room.new ≡ put room.old 0 (drop taken stock.now) (moves result.reply)) }
 {
-    let from = bytes::least(taken, stock.len());
-    let rest = &stock[from..];
-    let e = ask(script, used, bytes::least(room.len(), rest.len()));
+    let rest = &stock[taken.min(stock.len())..];
+    let e = ask(script, used, room.len().min(rest.len()));
     bytes::copy(room, 0, rest, moved(e.reply));
     e
 }

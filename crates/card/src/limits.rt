@@ -11,12 +11,12 @@ pub const BYTES_MOST: usize = 16384;
 // Why a call is refused: what of it is over its limit, or does not fit the rest.
 #[derive(Clone, Copy, Debug, PartialEq, Eq)]
 pub enum Refusal {
-    Capacity,
-    Length,
-    Peek,
-    Seek,
-    Device,
-    State,
+    Capacity = 1,
+    Length = 2,
+    Peek = 3,
+    Seek = 4,
+    Device = 5,
+    State = 8,
 }
 
 impl Refusal {
@@ -24,14 +24,7 @@ impl Refusal {
     pub fn number(self) -> u32
         ensures { result ≡ refusal_number self }
     {
-        match self {
-            Refusal::Capacity => 1,
-            Refusal::Length => 2,
-            Refusal::Peek => 3,
-            Refusal::Seek => 4,
-            Refusal::Device => 5,
-            Refusal::State => 8,
-        }
+        self as u32
     }
 }
 
