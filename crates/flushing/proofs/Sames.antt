@@ -62,6 +62,6 @@ send_all_one script source m used out r q x y e f =
 pub numbers_one : (w : BufWriter) (r q : Numbers) → r ≡ numbers w → q ≡ numbers w → r ≡ q
 numbers_one w = one (numbers w)
 
--- whether an answer is an ok: std's `is_ok`
+-- whether an answer is an ok
 pub succeeded_one : (a : Answer) (r q : Bool) → r ≡ is_ok (said a) → q ≡ is_ok (said a) → r ≡ q
 succeeded_one a = one (is_ok (said a))

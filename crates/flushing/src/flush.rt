@@ -1,11 +1,18 @@
 // The flush of the buffer: std's `BufWriter::flush_buf`.
 ghost use Rattle.std.specs.Prelude.{◌≡◌};
-ghost use Rattle.card.specs.Answers.{said_done};
-ghost use Rattle.flushing.specs.World.{Lent, world, tells, reported};
+ghost use Rattle.card.specs.Answers.{said, said_done};
+ghost use Rattle.flushing.specs.World.{Lent, world, tells, reported, is_ok};
 ghost use Rattle.flushing.specs.Flush.{flush_buf_call};
 
 use crate::{BufWriter, State, send};
-use card::{Failure, bytes};
+use card::{Answer, Failure, bytes};
+
+// Whether an answer is an ok: std's `is_ok`, which stands by this name because it is public.
+pub fn succeeded(answer: Answer) -> bool
+    ensures { result ≡ is_ok (said answer) }
+{
+    answer.is_ok()
+}
 
 impl BufWriter<'_, '_> {
     // However the run of device writes is left, what was taken is drained once.

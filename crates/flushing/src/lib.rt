@@ -21,6 +21,7 @@ pub struct State {
 }
 
 // A writer for one call: its state, what is lent with it, and how many device calls the call made.
+// That what is lent stays lent (`Lent`) is a clause of each call: it speaks of before and after.
 // The script is lent for a time of its own, since it is read while the medium is lent on.
 #[derive(Drop)]
 pub struct BufWriter<'a, 's> {

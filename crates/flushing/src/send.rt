@@ -22,6 +22,8 @@ pub fn send_all(source: &[u8], script: &[u32], used: usize, medium: &mut [u8], o
         let e = device::write(script, at, &source[sent..], medium, out + sent);
         at = e.used;
         made += 1;
+        // One match in another: over both at once (`Ok(0)`, `Err(DeviceError::Interrupted)`) no proof
+        // closed.
         match e.reply {
             Ok(n) => {
                 if n == 0 {

@@ -1,4 +1,5 @@
-// Module 3, the buffered writer: std's bufwriter.rs. Its `flush_buf` is in crate flushing.
+// Module 3, the buffered writer: std's bufwriter.rs. Its `flush_buf` is in crate flushing, with the
+// type; methods can only stand there, so what is here is functions over the lent writer.
 ghost use Rattle.std.specs.Prelude.{◌≡◌, ◌+◌, ◌≤◌, min, length, take};
 ghost use Rattle.laws.specs.Put.{put};
 ghost use Rattle.card.specs.Limits.{length_refusal};
@@ -13,7 +14,8 @@ use flushing::{BufWriter, State, Stop, send};
 
 // ---- the default device write
 
-// Why it is not done.
+// Why it is not done. No `From`: `Stop` has one, the flush's, and zero is another failure here. The
+// two are alike in shape alone.
 fn whole_failure(stop: Stop) -> Failure
     ensures { result ≡ whole_failure stop }
 {
@@ -29,22 +31,18 @@ pub fn device_write_all(w: &mut BufWriter<'_, '_>, slice: &[u8]) -> Result<(), F
     ensures lent { Lent w.old w.new }
     ensures told { tells (said_done result) w.new ≡ reported (device_write_all w.old.script.now (world w.old) slice.now) }
 {
-    let State { held, out, used } = w.state;
-    let script = w.script;
-    let run = send::send_all(slice, script, used, w.medium, out);
-    w.state = State {
-        held,
-        out: out + run.sent,
-        used: run.used,
-    };
+    let State { out, used, .. } = w.state;
+    let run = send::send_all(slice, w.script, used, w.medium, out);
+    w.state.out = out + run.sent;
+    w.state.used = run.used;
     w.calls = run.writes;
     run.outcome.map_err(whole_failure)
 }
 
 // ---- a slice that does not fit with room to spare
 
-// `Sound` is asked for by clauses: a type around the lent writer would have to be proved again
-// wherever the state changes, also where a call fails.
+// `Sound`, and that the call has made no device call yet, are asked for by clauses: a type around
+// the lent writer would have to be proved again wherever the state changes, also where a call fails.
 
 // The slice is kept behind the held bytes.
 fn store(w: &mut BufWriter<'_, '_>, slice: &[u8])
@@ -55,13 +53,8 @@ fn store(w: &mut BufWriter<'_, '_>, slice: &[u8])
     ensures same { w.new.medium.now ≡ w.old.medium.now }
     ensures calls { w.new.calls ≡ w.old.calls }
 {
-    let State { held, out, used } = w.state;
-    bytes::copy(w.storage, held, slice, slice.len());
-    w.state = State {
-        held: held + slice.len(),
-        out,
-        used,
-    };
+    bytes::copy(w.storage, w.state.held, slice, slice.len());
+    w.state.held += slice.len();
 }
 
 // A slice that is stored where it is shorter than the capacity, and goes to the device where not.
@@ -143,8 +136,7 @@ pub fn new() -> State
 pub fn buffer(state: State, storage: &[u8]) -> &[u8]
     ensures { result.now ≡ take state.held storage.now }
 {
-    let held = bytes::least(state.held, storage.len());
-    &storage[..held]
+    &storage[..state.held.min(storage.len())]
 }
 
 pub fn write(w: &mut BufWriter<'_, '_>, slice: &[u8]) -> Result<usize, Failure>
@@ -167,13 +159,8 @@ pub fn flush(w: &mut BufWriter<'_, '_>) -> Result<(), Failure>
     ensures told { tells (said_done result) w.new ≡ reported (flush_call w.old.script.now (world w.old)) }
 {
     w.flush_buf()?;
-    let State { held, out, used } = w.state;
-    let e = device::flush(w.script, used);
-    w.state = State {
-        held,
-        out,
-        used: e.used,
-    };
+    let e = device::flush(w.script, w.state.used);
+    w.state.used = e.used;
     w.calls += 1;
     e.reply?;
     Ok(())

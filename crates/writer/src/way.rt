@@ -65,17 +65,12 @@ impl Way for usize {
     ghost direct = { λ script w s. device_write script w s };
 
     fn direct(w: &mut BufWriter<'_, '_>, slice: &[u8]) -> Result<usize, Failure> {
-        let State { held, out, used } = w.state;
-        let script = w.script;
-        let e = device::write(script, used, slice, w.medium, out);
-        let reply = e.reply;
-        w.state = State {
-            held,
-            out: out + device::moved(reply),
-            used: e.used,
-        };
+        let State { out, used, .. } = w.state;
+        let e = device::write(w.script, used, slice, w.medium, out);
+        w.state.out = out + device::moved(e.reply);
+        w.state.used = e.used;
         w.calls += 1;
-        Ok(reply?)
+        Ok(e.reply?)
     }
 }
 

@@ -12,10 +12,10 @@ overflow_add-w c =
     let h = device_room _ c.args.slice.now w.medium.now _ w.state.out _ _ c.write-e.ensures.0 c.moved.ensures c.requires.out in
     omega (arith, h)
 
-pub returns-in_err-reply-clause-told : goal.returns-in_err-reply-clause-told
-returns-in_err-reply-clause-told c =
+pub returns-in_err-e-clause-told : goal.returns-in_err-e-clause-told
+returns-in_err-e-clause-told c =
     let p = err_from_is_err_and c.from_residual.result c.from_residual.ensures.1 in
-    rw (p.1, p.2) (device_is _ _ _ _ c.args.w.now.state _ _ _ _ _ c.write-e.ensures.0 c.write-e.ensures.1 (reply_says _ _ c.in_err-reply.was) c.moved.ensures)
+    rw (p.1, p.2) (device_is _ _ _ _ c.args.w.now.state _ _ _ _ _ c.write-e.ensures.0 c.write-e.ensures.1 (reply_says _ _ c.in_err-e.was) c.moved.ensures)
 
 pub returns-clause-told : goal.returns-clause-told
-returns-clause-told c = device_is _ _ _ _ c.args.w.now.state _ _ _ _ _ c.write-e.ensures.0 c.write-e.ensures.1 (ap write_said (sym c.in_ok-reply.was)) c.moved.ensures
+returns-clause-told c = device_is _ _ _ _ c.args.w.now.state _ _ _ _ _ c.write-e.ensures.0 c.write-e.ensures.1 (ap write_said (sym c.in_ok-e.was)) c.moved.ensures
