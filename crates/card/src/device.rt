@@ -1,4 +1,5 @@
-// The device's calls.
+// The device's calls. Script, medium and stock go in each with a place: the writer and the reader have
+// all of them, and a struct of two would be made for one call.
 ghost use Rattle.std.specs.Prelude.{◌≡◌, ◌+◌, ◌-◌, min, length, drop};
 ghost use Rattle.laws.specs.Put.{put};
 ghost use Rattle.card.specs.Device.{reply_of, at_most, exchange, moves};

@@ -23,6 +23,7 @@ impl BufWriter<'_, '_> {
         self.calls = 0;
         self.numbers().check()?;
         let State { held, out, used } = self.state;
+        // Each field by itself, since two are lent at once.
         let script = self.script;
         let storage = &mut *self.storage;
         let medium = &mut *self.medium;

@@ -10,7 +10,7 @@ ghost use Rattle.line.specs.Line.{ends_line, window, tail_kept, send_lines, line
 use crate::newline;
 use crate::plain::Plain;
 use card::{Failure, bytes, device, limits};
-use flushing::{BufWriter, State};
+use flushing::BufWriter;
 use writer::bufwriter;
 
 // Whether the last held byte is a newline.
@@ -64,27 +64,21 @@ fn send_lines(w: &mut BufWriter<'_, '_>, slice: &[u8], e: usize) -> Result<usize
     ensures lent { Lent w.old w.new }
     ensures told { tells (said_count result) w.new ≡ reported (send_lines w.old.script.now (counting w.old) slice.now e) }
 {
-    let State { held, out, used } = w.state;
-    let script = w.script;
-    let x = device::write(script, used, &slice[..e], w.medium, out);
+    let x = device::write(w.script, w.state.used, &slice[..e], w.medium, w.state.out);
     w.calls += 1;
-    w.state = State {
-        held,
-        out,
-        used: x.used,
-    };
+    w.state.used = x.used;
     let f = x.reply?;
     let kept = tail_kept(slice, w.storage.len(), e, f);
-    bytes::copy(w.storage, held, &slice[f..], kept);
-    w.state = State {
-        held: held + kept,
-        out: out + f,
-        used: x.used,
-    };
+    bytes::copy(w.storage, w.state.held, &slice[f..], kept);
+    w.state.held += kept;
+    w.state.out += f;
     Ok(f + kept)
 }
 
-// ---- a flush of the buffer, and then the rest (`Sound` stands in clauses as in `writer`)
+// ---- a flush of the buffer, and then the rest
+
+// `Sound` stands in clauses as in `writer`. So do the two bounds on a slice and its lines: each is of
+// a slice that a caller cut, and `send_lines` keeps across the cut, so slice and length go together.
 
 fn flush_then_lines(w: &mut BufWriter<'_, '_>, slice: &[u8], e: usize) -> Result<usize, Failure>
     requires sound { Sound w.old.script.now (world w.old) }
@@ -96,7 +90,8 @@ fn flush_then_lines(w: &mut BufWriter<'_, '_>, slice: &[u8], e: usize) -> Result
     send_lines(w, slice, e)
 }
 
-// The plain call counts from none, so the device calls before it are added.
+// The plain call counts from none, so the device calls before it are added, here and wherever one
+// call follows another: with a closure for the call that would be no shorter.
 fn flush_then<T: Plain>(w: &mut BufWriter<'_, '_>, slice: &[u8]) -> Result<T, Failure>
     requires sound { Sound w.old.script.now (world w.old) }
     requires short { length slice.now ≤ bytes_most }
@@ -144,6 +139,7 @@ fn lines_through(w: &mut BufWriter<'_, '_>, slice: &[u8], e: usize) -> Result<()
 
 // ---- the public calls
 
+// `write` and `write_all` share all but what follows a newline, which is the most of either.
 pub fn write(w: &mut BufWriter<'_, '_>, slice: &[u8]) -> Result<usize, Failure>
     ensures lent { Lent w.old w.new }
     ensures told { tells (said_count result) w.new ≡ reported (line_write_call w.old.script.now (world w.old) slice.now) }

@@ -1,6 +1,7 @@
 // The buffer of the reader. These steps are the reader's own: they refuse nothing, and ask of
-// their callers what a refusal would have caught (`Fit`). A type for that would have to be proved
-// again wherever the state changes, also where a call fails.
+// their callers what a refusal would have caught (`Fit`), and that no device call was made yet, from
+// where the definitions count. A type for that would have to be proved again wherever the state
+// changes, also where a call fails.
 ghost use Rattle.std.specs.Prelude.{◌≡◌, ◌≤◌, length, drop};
 ghost use Rattle.reader.specs.World.{Fit, Lent, world_of, fetched, since};
 ghost use Rattle.reader.specs.Buffer.{backshift, read_more, fill_buf};

@@ -1,7 +1,8 @@
 // The reader's calls. The state's numbers go in and out through `pos`, `filled`, `taken` and
 // `used`; `value` and `calls` only go out, and what they had does not matter. What `peek` and fill
 // show is the caller's own storage: `value` bytes of it from `pos` on. Each number is a parameter,
-// and the functions are alike, because C calls them so.
+// and the functions are alike, because C calls them so; with a closure for the call that each makes they
+// would be no plainer.
 ghost use Rattle.std.specs.Prelude.{◌≡◌, List, ℕ};
 ghost use Rattle.card.specs.Answers.{said};
 ghost use Rattle.reader.specs.World.{world};

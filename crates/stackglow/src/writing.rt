@@ -1,6 +1,7 @@
 // The writer's calls. The state's numbers go in and out through `held`, `out` and `used`; `value`
 // and `calls` only go out, and what they had does not matter. Each number is a parameter, and the
-// functions are alike, because C calls them so.
+// functions are alike, because C calls them so; with a closure for the call that each makes they
+// would be no plainer.
 ghost use Rattle.std.specs.Prelude.{◌≡◌};
 ghost use Rattle.card.specs.Answers.{said};
 ghost use Rattle.flushing.specs.World.{world_of, reported};

@@ -1,6 +1,6 @@
 // The line writer's calls as others link them. Their archive, `stackline_c`, is apart from
 // `stackglow_c`, since the compiler makes the plain writer's call faster where the line writer does
-// not call it too. Their shape is that of `stackglow`'s; the flush is `stackglow_flush`.
+// not call it too. C asks for their shape, as for that of `stackglow`'s; the flush is `stackglow_flush`.
 #![tactic(auto)]
 
 ghost use Rattle.std.specs.Prelude.{◌≡◌};

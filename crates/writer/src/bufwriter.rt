@@ -31,9 +31,8 @@ pub fn device_write_all(w: &mut BufWriter<'_, '_>, slice: &[u8]) -> Result<(), F
     ensures lent { Lent w.old w.new }
     ensures told { tells (said_done result) w.new ≡ reported (device_write_all w.old.script.now (world w.old) slice.now) }
 {
-    let State { out, used, .. } = w.state;
-    let run = send::send_all(slice, w.script, used, w.medium, out);
-    w.state.out = out + run.sent;
+    let run = send::send_all(slice, w.script, w.state.used, w.medium, w.state.out);
+    w.state.out += run.sent;
     w.state.used = run.used;
     w.calls = run.writes;
     run.outcome.map_err(whole_failure)

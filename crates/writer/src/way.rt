@@ -8,7 +8,7 @@ ghost use Rattle.writer.specs.Writer.{device_write, device_write_all};
 
 use crate::bufwriter;
 use card::{Failure, device};
-use flushing::{BufWriter, State};
+use flushing::BufWriter;
 
 // What a call answers with where it succeeds.
 pub trait Success: Drop {
@@ -65,9 +65,8 @@ impl Way for usize {
     ghost direct = { λ script w s. device_write script w s };
 
     fn direct(w: &mut BufWriter<'_, '_>, slice: &[u8]) -> Result<usize, Failure> {
-        let State { out, used, .. } = w.state;
-        let e = device::write(w.script, used, slice, w.medium, out);
-        w.state.out = out + device::moved(e.reply);
+        let e = device::write(w.script, w.state.used, slice, w.medium, w.state.out);
+        w.state.out += device::moved(e.reply);
         w.state.used = e.used;
         w.calls += 1;
         Ok(e.reply?)
