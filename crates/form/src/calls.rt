@@ -2,12 +2,9 @@
 ghost use Rattle.std.specs.Prelude.{◌≡◌};
 ghost use Rattle.form.specs.Calls.{seek_at, writer_call, reader_call, call_at};
 
-use crate::Call;
+use crate::{Call, READER, WORD_MOST};
 use card::limits;
 use numbers::Fault;
-
-// The largest size of a peek, a consume or a seek: the largest number below 2^32.
-const SIZE_MOST: usize = 4294967295;
 
 // A writer's call, whose number stands at `at` and whose rest at `next`: the number is a call from
 // here on.
@@ -40,7 +37,7 @@ fn read_seek(session: &[u8], at: usize) -> Result<(Call, usize), Fault>
     ensures { result ≡ seek_at session.now at }
 {
     let (direction, place) = numbers::read_most(session, at, 1)?;
-    let (size, next) = numbers::read_most(session, place, SIZE_MOST)?;
+    let (size, next) = numbers::read_most(session, place, WORD_MOST)?;
     match (direction, size) {
         (0, _) => Ok((Call::Seek(false, size), next)),
         (_, 0) => Err(Fault { place }),
@@ -64,11 +61,11 @@ fn read_reader(
             Ok((Call::Read(n), end))
         }
         4 => {
-            let (n, end) = numbers::read_most(session, next, SIZE_MOST)?;
+            let (n, end) = numbers::read_most(session, next, WORD_MOST)?;
             Ok((Call::Peek(n), end))
         }
         5 => {
-            let (n, end) = numbers::read_most(session, next, SIZE_MOST)?;
+            let (n, end) = numbers::read_most(session, next, WORD_MOST)?;
             Ok((Call::Consume(n), end))
         }
         6 => read_seek(session, next),
@@ -78,13 +75,13 @@ fn read_reader(
 }
 
 // The call at a place of a session of this kind, and the place after it. The kind stays a number,
-// since any number is one: 2 is the reader, any other a writer.
+// since any number is one: the reader's, and any other a writer's.
 #[tactic(auto, unfolding(crate::specs::Calls::call_at))]
 pub fn read_call(session: &[u8], kind: usize, at: usize) -> Result<(Call, usize), Fault>
     ensures { result ≡ call_at session.now kind at }
 {
     let (number, next) = numbers::read_most(session, at, 7)?;
-    if kind == 2 {
+    if kind == READER {
         return read_reader(session, at, number, next);
     }
     read_writer(session, at, number, next)
