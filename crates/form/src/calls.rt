@@ -3,11 +3,12 @@ ghost use Rattle.std.specs.Prelude.{◌≡◌};
 ghost use Rattle.form.specs.Calls.{seek_at, writer_call, reader_call, call_at};
 
 use crate::{Call, READER, WORD_MOST};
-use card::limits;
+use card::limits::BYTES_MOST;
 use numbers::Fault;
 
 // A writer's call, whose number stands at `at` and whose rest at `next`: the number is a call from
-// here on.
+// here on. The two writes keep their `?`: closures for `map` would be no shorter, and each would have
+// to be told that its sum fits.
 #[tactic(auto, using(numbers::proofs::Most::length_within), unfolding(crate::specs::Calls::writer_call, crate::specs::Calls::write_at, crate::specs::Calls::write_all_at, crate::specs::Calls::length_at))]
 fn read_writer(
     session: &[u8],
@@ -19,11 +20,11 @@ fn read_writer(
 {
     match number {
         0 => {
-            let (length, start) = numbers::read_length(session, next, limits::BYTES_MOST)?;
+            let (length, start) = numbers::read_length(session, next, BYTES_MOST)?;
             Ok((Call::Write(start, length), start + length))
         }
         1 => {
-            let (length, start) = numbers::read_length(session, next, limits::BYTES_MOST)?;
+            let (length, start) = numbers::read_length(session, next, BYTES_MOST)?;
             Ok((Call::WriteAll(start, length), start + length))
         }
         2 => Ok((Call::Flush, next)),
@@ -45,7 +46,8 @@ fn read_seek(session: &[u8], at: usize) -> Result<(Call, usize), Fault>
     }
 }
 
-// A reader's call, whose number stands at `at` and whose rest at `next`.
+// A reader's call, whose number stands at `at` and whose rest at `next`: the number is a call from
+// here on.
 #[tactic(auto, unfolding(crate::specs::Calls::reader_call, crate::specs::Calls::read_at, crate::specs::Calls::peek_at, crate::specs::Calls::consume_at))]
 fn read_reader(
     session: &[u8],
@@ -56,18 +58,9 @@ fn read_reader(
     ensures { result ≡ reader_call session.now at number next }
 {
     match number {
-        3 => {
-            let (n, end) = numbers::read_most(session, next, limits::BYTES_MOST)?;
-            Ok((Call::Read(n), end))
-        }
-        4 => {
-            let (n, end) = numbers::read_most(session, next, WORD_MOST)?;
-            Ok((Call::Peek(n), end))
-        }
-        5 => {
-            let (n, end) = numbers::read_most(session, next, WORD_MOST)?;
-            Ok((Call::Consume(n), end))
-        }
+        3 => numbers::read_most(session, next, BYTES_MOST).map(|(n, end)| (Call::Read(n), end)),
+        4 => numbers::read_most(session, next, WORD_MOST).map(|(n, end)| (Call::Peek(n), end)),
+        5 => numbers::read_most(session, next, WORD_MOST).map(|(n, end)| (Call::Consume(n), end)),
         6 => read_seek(session, next),
         7 => Ok((Call::Fill, next)),
         _ => Err(Fault { place: at }),

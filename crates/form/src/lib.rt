@@ -8,7 +8,8 @@ mod lists;
 pub mod replies;
 pub mod whole;
 
-// The kinds, by the first number of a session: what its calls are made on; or a trace follows.
+// The kinds, a session's first number: what its calls are made on, or that a trace follows. A kind
+// stays a number, since the session line prints it and `calls::read_call` takes any.
 pub const WRITER: usize = 0;
 
 pub const LINE_WRITER: usize = 1;
@@ -36,8 +37,8 @@ pub enum Call {
     Fill,
 }
 
-// What a session holds beside its lists: the kind (of the writer, the line writer or the
-// reader) and the capacity; how many replies there are and where the first stands; where the stock's bytes stand
+// What a session holds beside its lists: the kind (`WRITER`, `LINE_WRITER` or `READER`) and the
+// capacity; how many replies there are and where the first stands; where the stock's bytes stand
 // and how many they are (none, after the replies, for a writer); how many calls there are and
 // where the first stands. The kind stays the number that `calls::read_call` takes, and the rest places
 // and lengths, since nothing is kept of the calls.

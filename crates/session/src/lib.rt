@@ -17,7 +17,7 @@ ghost use Rattle.form.specs.Session.{session_of};
 
 use card::limits::{BYTES_MOST, CAPACITY_MOST, SCRIPT_MOST};
 use flushing::BufWriter;
-use form::{Checked, Header, replies, whole};
+use form::{Checked, Header, READER, replies, whole};
 use judge::Verdict;
 use reader::{BufReader, State};
 use text::Page;
@@ -77,7 +77,7 @@ impl Session<'_> {
         ensures { Prints (session_of self.now.bytes.now) page.old page.new }
     {
         page.session_line(self.header.kind, self.header.capacity);
-        if self.header.kind == 2 {
+        if self.header.kind == READER {
             self.read_calls(page);
             return;
         }

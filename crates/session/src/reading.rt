@@ -10,7 +10,7 @@ ghost use Rattle.session.specs.Steps.{Shows, Bounded, Runs, Steps, Lines};
 
 use card::limits::BYTES_MOST;
 use card::{Answer, counted, uncounted};
-use form::{Call, Header, calls};
+use form::{Call, Header, READER, calls};
 use reader::BufReader;
 use text::{Name, Page};
 
@@ -51,7 +51,7 @@ fn read(r: &mut BufReader<'_>, n: usize, page: &mut Page<'_>)
     read_into(r, &mut destination[..n], page);
 }
 
-// The offset of a seek.
+// The offset of a seek. Direction and size are the session's two numbers (`form::Call`).
 fn offset(back: bool, size: usize) -> i64
     requires { Bounded back size }
     ensures { result ≡ offset_of back size }
@@ -94,7 +94,7 @@ pub(crate) fn run(session: &[u8], header: Header, r: &mut BufReader<'_>, page: &
 {
     let mut place = header.first;
     for _ in 0..header.count {
-        let Ok((call, after)) = calls::read_call(session, 2, place) else {
+        let Ok((call, after)) = calls::read_call(session, READER, place) else {
             return;
         };
         step(session, call, r, page);

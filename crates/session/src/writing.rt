@@ -10,19 +10,19 @@ ghost use Rattle.session.specs.Writing.{told_write, told_write_all, writer_step,
 
 use card::{Answer, Failure, counted, uncounted};
 use flushing::BufWriter;
-use form::{Call, Header, calls};
+use form::{Call, Header, LINE_WRITER, calls};
 use line::linewriter;
 use text::{Name, Page};
 use writer::bufwriter;
 
-// The kind is the header's number: 1 is the line writer, any other the plain one. Each of the two
-// calls has its function: with closures for the writers' calls one function would be no shorter.
+// The kind is the header's number: the line writer's, and any other is the plain one's. Each of the
+// two calls has its function: with closures for the writers' calls one function would be no shorter.
 #[tactic(auto, using(crate::proofs::WriteSteps::line_write_is, crate::proofs::WriteSteps::write_is))]
 fn write(kind: usize, w: &mut BufWriter<'_, '_>, slice: &[u8]) -> Result<usize, Failure>
     ensures lent { Lent w.old w.new }
     ensures told { tells (said_count result) w.new ≡ told_write kind w.old.script.now (world w.old) slice.now }
 {
-    if kind == 1 {
+    if kind == LINE_WRITER {
         return linewriter::write(w, slice);
     }
     bufwriter::write(w, slice)
@@ -33,7 +33,7 @@ fn write_all(kind: usize, w: &mut BufWriter<'_, '_>, slice: &[u8]) -> Result<(),
     ensures lent { Lent w.old w.new }
     ensures told { tells (said_done result) w.new ≡ told_write_all kind w.old.script.now (world w.old) slice.now }
 {
-    if kind == 1 {
+    if kind == LINE_WRITER {
         return linewriter::write_all(w, slice);
     }
     bufwriter::write_all(w, slice)
