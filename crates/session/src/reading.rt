@@ -60,7 +60,8 @@ fn offset(back: bool, size: usize) -> i64
     if back { -magnitude } else { magnitude }
 }
 
-// One call of the session, and its line.
+// One call of the session, and its line. The reader and the page are lent apart: what a line shows is
+// lent by the reader while the page changes, which a method of a struct of both could not do.
 fn step(session: &[u8], call: Call, r: &mut BufReader<'_>, page: &mut Page<'_>)
     requires { Runs (asked session.now call) }
     ensures lent { Lent r.old r.new }

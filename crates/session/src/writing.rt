@@ -46,7 +46,8 @@ fn line(page: &mut Page<'_>, name: Name, answer: Answer, w: &BufWriter<'_, '_>)
     page.writer_line(name, answer, w.calls, w.state.held, w.state.out);
 }
 
-// One call of the session, and its line.
+// One call of the session, and its line. The writer and the page are lent apart: `write` and
+// `write_all` want the writer alone.
 fn step(session: &[u8], kind: usize, call: Call, w: &mut BufWriter<'_, '_>, page: &mut Page<'_>)
     ensures lent { Lent w.old w.new }
     ensures steps { Steps (writer_step kind w.old.script.now (world w.old) (asked session.now call)) page.old page.new (world w.new) }
