@@ -61,9 +61,3 @@ pub record Good (t : List ℕ) (header : Header) : Type 0 where
   pub stock : List ℕ
   pub calls : List Asked
   pub is : session_of t ≡ session header replies stock calls
-
--- the same, with its replies in a script
-pub record Ready (t : List ℕ) (header : Header) (script : List ℕ) : Type 0 where
-  pub stock : List ℕ
-  pub calls : List Asked
-  pub is : session_of t ≡ session header script stock calls

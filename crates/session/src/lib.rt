@@ -4,16 +4,18 @@
 mod reading;
 mod writing;
 
-ghost use Rattle.std.specs.Prelude.{◌≡◌, take, drop, replicate};
+ghost use Rattle.std.specs.Prelude.{◌≡◌, take, drop, replicate, Ok};
 ghost use Rattle.card.specs.Limits.{bytes_most};
 ghost use Rattle.flushing.specs.World as Writer;
 ghost use Rattle.reader.specs.World.{world};
 ghost use Rattle.reader.specs.Buffer as Reader;
 ghost use Rattle.session.specs.Writing.{writer_step, writer_ends};
 ghost use Rattle.session.specs.Reading.{reader_step, reader_ends};
-ghost use Rattle.session.specs.Steps.{Lines, Prints, Rules, Good, Ready};
+ghost use Rattle.session.specs.Steps.{Lines, Prints, Rules, Good};
 ghost use Rattle.session.specs.Session.{Ruled, Shown};
-ghost use Rattle.form.specs.Session.{session_of};
+ghost use Rattle.form.specs.declared.Checked.TheVariants.{Session};
+ghost use Rattle.form.specs.Replies.{replies_in};
+ghost use Rattle.form.specs.Session.{session_of, checked};
 
 use card::limits::{BYTES_MOST, CAPACITY_MOST, SCRIPT_MOST};
 use flushing::BufWriter;
@@ -31,19 +33,19 @@ fn part(bytes: &[u8], start: usize, n: usize) -> &[u8]
     &rest[..n.min(rest.len())]
 }
 
-// A session without a fault, and its replies as the script. That it is so stands in clauses and in
-// no ghost field, since `Ready` has the stock and the calls that it speaks of.
+// A session without a fault, and its replies as the script.
 #[derive(Drop)]
 struct Session<'a> {
     bytes: &'a [u8],
     header: Header,
     script: &'a [u32],
+    ghost whole: { checked (session_of bytes.now) ≡ Ok (Session header) },
+    ghost replies: { script.now ≡ replies_in bytes.now header.replies header.script },
 }
 
 impl Session<'_> {
     // A writer's calls, on storage of zeros and a medium of zeros.
     fn write_calls(&self, page: &mut Page<'_>)
-        requires { Ready self.now.bytes.now self.now.header self.now.script.now }
         ensures { Lines self.now.bytes.now self.now.header.kind self.now.header.count self.now.header.first (λ w call. writer_step self.now.header.kind self.now.script.now w call) writer_ends (Writer.new (replicate self.now.header.capacity 0) (replicate bytes_most 0)) page.old page.new }
     {
         let mut storage = [0u8; CAPACITY_MOST];
@@ -61,7 +63,6 @@ impl Session<'_> {
 
     // A reader's calls, on storage of zeros.
     fn read_calls(&self, page: &mut Page<'_>)
-        requires { Ready self.now.bytes.now self.now.header self.now.script.now }
         ensures { Lines self.now.bytes.now 2 self.now.header.count self.now.header.first (λ w call. reader_step self.now.script.now (take self.now.header.length (drop self.now.header.stock self.now.bytes.now)) w call) reader_ends (world (replicate self.now.header.capacity 0) Reader.new) page.old page.new }
     {
         let mut storage = [0u8; CAPACITY_MOST];
@@ -73,7 +74,6 @@ impl Session<'_> {
 
     // The session line, the calls and the end line.
     fn run_calls(&self, page: &mut Page<'_>)
-        requires { Ready self.now.bytes.now self.now.header self.now.script.now }
         ensures { Prints (session_of self.now.bytes.now) page.old page.new }
     {
         page.session_line(self.header.kind, self.header.capacity);
