@@ -4,18 +4,17 @@
 mod reading;
 mod writing;
 
-ghost use Rattle.std.specs.Prelude.{◌≡◌, take, drop, replicate, Ok};
+ghost use Rattle.std.specs.Prelude.{◌≡◌, take, drop, replicate};
 ghost use Rattle.card.specs.Limits.{bytes_most};
 ghost use Rattle.flushing.specs.World as Writer;
 ghost use Rattle.reader.specs.World.{world};
 ghost use Rattle.reader.specs.Buffer as Reader;
 ghost use Rattle.session.specs.Writing.{writer_step, writer_ends};
 ghost use Rattle.session.specs.Reading.{reader_step, reader_ends};
-ghost use Rattle.session.specs.Steps.{Lines, Prints, Rules, Good};
+ghost use Rattle.session.specs.Steps.{Lines, Prints, Rules, Passes};
 ghost use Rattle.session.specs.Session.{Ruled, Shown};
-ghost use Rattle.form.specs.declared.Checked.TheVariants.{Session};
 ghost use Rattle.form.specs.Replies.{replies_in};
-ghost use Rattle.form.specs.Session.{session_of, checked};
+ghost use Rattle.form.specs.Session.{session_of};
 
 use card::limits::{BYTES_MOST, CAPACITY_MOST, SCRIPT_MOST};
 use flushing::BufWriter;
@@ -39,7 +38,7 @@ struct Session<'a> {
     bytes: &'a [u8],
     header: Header,
     script: &'a [u32],
-    ghost whole: { checked (session_of bytes.now) ≡ Ok (Session header) },
+    ghost whole: { Passes bytes.now header },
     ghost replies: { script.now ≡ replies_in bytes.now header.replies header.script },
 }
 
@@ -87,7 +86,7 @@ impl Session<'_> {
 
 // A session without a fault: its replies become the script.
 fn run(bytes: &[u8], header: Header, page: &mut Page<'_>)
-    requires { Good bytes.now header }
+    requires { Passes bytes.now header }
     ensures { Prints (session_of bytes.now) page.old page.new }
 {
     let mut script = [0u32; SCRIPT_MOST];

@@ -89,7 +89,8 @@ fn step(session: &[u8], call: Call, r: &mut BufReader<'_>, page: &mut Page<'_>)
     }
 }
 
-// The calls of a session, and its end line.
+// The calls of a session, and its end line. `writing::run` is alike: one function for both would take
+// step and end as closures, and would have to say of any such closures what each says of its own.
 pub(crate) fn run(session: &[u8], header: Header, r: &mut BufReader<'_>, page: &mut Page<'_>)
     ensures { Lines session.now 2 header.count header.first (λ w call. reader_step r.old.script.now r.old.stock.now w call) reader_ends (world_of r.old) page.old page.new }
 {

@@ -77,7 +77,7 @@ fn end(page: &mut Page<'_>, w: &BufWriter<'_, '_>)
     page.writer_end(held, crate::part(w.medium, 0, w.state.out));
 }
 
-// The calls of a session, and its end line.
+// The calls of a session, and its end line. `reading::run` says why each kind has a run of its own.
 pub(crate) fn run(session: &[u8], header: Header, w: &mut BufWriter<'_, '_>, page: &mut Page<'_>)
     ensures { Lines session.now header.kind header.count header.first (λ v call. writer_step header.kind w.old.script.now v call) writer_ends (world w.old) page.old page.new }
 {
