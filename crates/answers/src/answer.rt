@@ -7,7 +7,7 @@ pub(crate) fn number(page: &mut Page<'_>, n: usize) {
     page.say(&n.to_le_bytes()[..4]);
 }
 
-// The first three numbers of every answer.
+// The first three numbers of every answer. The driver reads these numbers.
 pub(crate) fn put(page: &mut Page<'_>, answer: Answer, calls: usize) {
     let (kind, value) = match answer {
         Ok(Some(n)) => (0, n),

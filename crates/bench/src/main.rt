@@ -12,7 +12,8 @@ const INPUT_ROOM: usize = form::whole::SESSION_MOST + 1;
 // More than the longest text.
 const OUTPUT_ROOM: usize = 2400000;
 
-// Zeros. Their length is promised, so that no proof counts them.
+// Zeros. Their length is promised, so that no proof counts them. The program `answers` has the same:
+// the two share no library for it.
 fn zeros<const N: usize>() -> [u8; N]
     ensures { length result ≡ N }
 {

@@ -2,15 +2,13 @@
 ghost use Rattle.std.specs.Prelude.{◌≡◌};
 ghost use Rattle.form.specs.Calls.{seek_at, writer_call, reader_call, call_at};
 
-use crate::Call;
-use card::limits;
+use crate::{Call, READER, WORD_MOST};
+use card::limits::BYTES_MOST;
 use numbers::Fault;
 
-// The largest size of a peek, a consume or a seek: the largest number below 2^32.
-const SIZE_MOST: usize = 4294967295;
-
 // A writer's call, whose number stands at `at` and whose rest at `next`: the number is a call from
-// here on.
+// here on. The two writes keep their `?`: closures for `map` would be no shorter, and each would have
+// to be told that its sum fits.
 #[tactic(auto, using(numbers::proofs::Most::length_within), unfolding(crate::specs::Calls::writer_call, crate::specs::Calls::write_at, crate::specs::Calls::write_all_at, crate::specs::Calls::length_at))]
 fn read_writer(
     session: &[u8],
@@ -22,11 +20,11 @@ fn read_writer(
 {
     match number {
         0 => {
-            let (length, start) = numbers::read_length(session, next, limits::BYTES_MOST)?;
+            let (length, start) = numbers::read_length(session, next, BYTES_MOST)?;
             Ok((Call::Write(start, length), start + length))
         }
         1 => {
-            let (length, start) = numbers::read_length(session, next, limits::BYTES_MOST)?;
+            let (length, start) = numbers::read_length(session, next, BYTES_MOST)?;
             Ok((Call::WriteAll(start, length), start + length))
         }
         2 => Ok((Call::Flush, next)),
@@ -40,7 +38,7 @@ fn read_seek(session: &[u8], at: usize) -> Result<(Call, usize), Fault>
     ensures { result ≡ seek_at session.now at }
 {
     let (direction, place) = numbers::read_most(session, at, 1)?;
-    let (size, next) = numbers::read_most(session, place, SIZE_MOST)?;
+    let (size, next) = numbers::read_most(session, place, WORD_MOST)?;
     match (direction, size) {
         (0, _) => Ok((Call::Seek(false, size), next)),
         (_, 0) => Err(Fault { place }),
@@ -48,7 +46,8 @@ fn read_seek(session: &[u8], at: usize) -> Result<(Call, usize), Fault>
     }
 }
 
-// A reader's call, whose number stands at `at` and whose rest at `next`.
+// A reader's call, whose number stands at `at` and whose rest at `next`: the number is a call from
+// here on.
 #[tactic(auto, unfolding(crate::specs::Calls::reader_call, crate::specs::Calls::read_at, crate::specs::Calls::peek_at, crate::specs::Calls::consume_at))]
 fn read_reader(
     session: &[u8],
@@ -59,18 +58,9 @@ fn read_reader(
     ensures { result ≡ reader_call session.now at number next }
 {
     match number {
-        3 => {
-            let (n, end) = numbers::read_most(session, next, limits::BYTES_MOST)?;
-            Ok((Call::Read(n), end))
-        }
-        4 => {
-            let (n, end) = numbers::read_most(session, next, SIZE_MOST)?;
-            Ok((Call::Peek(n), end))
-        }
-        5 => {
-            let (n, end) = numbers::read_most(session, next, SIZE_MOST)?;
-            Ok((Call::Consume(n), end))
-        }
+        3 => numbers::read_most(session, next, BYTES_MOST).map(|(n, end)| (Call::Read(n), end)),
+        4 => numbers::read_most(session, next, WORD_MOST).map(|(n, end)| (Call::Peek(n), end)),
+        5 => numbers::read_most(session, next, WORD_MOST).map(|(n, end)| (Call::Consume(n), end)),
         6 => read_seek(session, next),
         7 => Ok((Call::Fill, next)),
         _ => Err(Fault { place: at }),
@@ -78,13 +68,13 @@ fn read_reader(
 }
 
 // The call at a place of a session of this kind, and the place after it. The kind stays a number,
-// since any number is one: 2 is the reader, any other a writer.
+// since any number is one: the reader's, and any other a writer's.
 #[tactic(auto, unfolding(crate::specs::Calls::call_at))]
 pub fn read_call(session: &[u8], kind: usize, at: usize) -> Result<(Call, usize), Fault>
     ensures { result ≡ call_at session.now kind at }
 {
     let (number, next) = numbers::read_most(session, at, 7)?;
-    if kind == 2 {
+    if kind == READER {
         return read_reader(session, at, number, next);
     }
     read_writer(session, at, number, next)

@@ -8,6 +8,19 @@ mod lists;
 pub mod replies;
 pub mod whole;
 
+// The kinds, a session's first number: what its calls are made on, or that a trace follows. A kind
+// stays a number, since the session line prints it and `calls::read_call` takes any.
+pub const WRITER: usize = 0;
+
+pub const LINE_WRITER: usize = 1;
+
+pub const READER: usize = 2;
+
+pub const TRACE: usize = 3;
+
+// The largest number below 2^32: of a reply, and of the size of a peek, a consume or a seek.
+const WORD_MOST: usize = 4294967295;
+
 // One call of a session. The bytes of a write are the session's, from a start on, so many as the
 // length says: `Write(start, length)`, the numbers that `calls::read_call` promises. A seek's first
 // value is true for back, false for on: direction and size stay the two numbers that the session has,
@@ -24,7 +37,7 @@ pub enum Call {
     Fill,
 }
 
-// What a session holds beside its lists: the kind (0 writer, 1 line writer, 2 reader) and the
+// What a session holds beside its lists: the kind (`WRITER`, `LINE_WRITER` or `READER`) and the
 // capacity; how many replies there are and where the first stands; where the stock's bytes stand
 // and how many they are (none, after the replies, for a writer); how many calls there are and
 // where the first stands. The kind stays the number that `calls::read_call` takes, and the rest places
@@ -41,7 +54,7 @@ pub struct Header {
     pub first: usize,
 }
 
-// A session without a fault: its header; or, of kind 3, the place where the trace starts, of which
+// A session without a fault: its header; or, of a trace, the place where the trace starts, of which
 // nothing is checked here.
 #[derive(Clone, Copy, Debug, PartialEq, Eq)]
 pub enum Checked {

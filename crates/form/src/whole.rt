@@ -2,8 +2,7 @@
 ghost use Rattle.std.specs.Prelude.{◌≡◌};
 ghost use Rattle.form.specs.Session.{stock_of, session_of, checked};
 
-use crate::replies::REPLY_MOST;
-use crate::{Checked, Header, calls, lists};
+use crate::{Checked, Header, READER, TRACE, WORD_MOST, calls, lists};
 use card::limits;
 use numbers::Fault;
 
@@ -16,7 +15,7 @@ pub const CALLS_MOST: usize = 1024;
 fn read_stock(session: &[u8], kind: usize, at: usize) -> Result<(usize, usize), Fault>
     ensures { result ≡ stock_of session.now kind at }
 {
-    if kind == 2 {
+    if kind == READER {
         return numbers::read_length(session, at, limits::BYTES_MOST);
     }
     Ok((0, at))
@@ -33,8 +32,8 @@ pub fn check(session: &[u8]) -> Result<Checked, Fault>
             place: SESSION_MOST,
         });
     }
-    let (kind, next) = numbers::read_most(session, 0, 3)?;
-    if kind == 3 {
+    let (kind, next) = numbers::read_most(session, 0, TRACE)?;
+    if kind == TRACE {
         return Ok(Checked::Traced(next));
     }
     let (capacity, next) = numbers::read_most(session, next, limits::CAPACITY_MOST)?;
@@ -42,7 +41,7 @@ pub fn check(session: &[u8]) -> Result<Checked, Fault>
     let at = lists::skip(
         replies,
         script,
-        |at| numbers::read_most(session, at, REPLY_MOST),
+        |at| numbers::read_most(session, at, WORD_MOST),
     )?;
     let (length, stock) = read_stock(session, kind, at)?;
     let (count, first) = numbers::read_most(session, stock + length, CALLS_MOST)?;

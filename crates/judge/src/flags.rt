@@ -1,4 +1,5 @@
-// A set of held counts, a flag for each of 0 to 1,024, and how a traced call moves it.
+// A set of held counts, a flag for each of 0 to 1,024, and how a traced call moves it. The set is an
+// array, since there is no heap.
 ghost use Rattle.std.specs.Prelude.{◌≡◌, ◌↔◌, ℕ, ◌≤◌, ◌<◌, true, MatchOption};
 ghost use Rattle.judge.specs.Flags.{Has, Highest, Stored, landing, stores, directs, syncs, empties, halts, stops, Turned};
 

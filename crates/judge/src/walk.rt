@@ -1,4 +1,5 @@
-// The walks over a trace's calls. Neither keeps a call.
+// The walks over a trace's calls. Neither keeps a call. Each keeps total and place itself: an iterator
+// would keep the same two numbers, and every turn would have to be told which call it met.
 ghost use Rattle.std.specs.Prelude.{◌≡◌, ◌+◌, ◌≤◌, length};
 ghost use Rattle.judge.specs.Flags.{Reached, answers, OfTrace, Comparison};
 

@@ -1,5 +1,6 @@
 // Numbers in groups of seven bits, as traces and sessions hold them, with the place of a fault.
-// Every public function is total: it asks nothing of the bytes nor of the place.
+// Every public function is total: it asks nothing of the bytes nor of the place. The place goes in
+// and comes out, and no cursor keeps it: what is read is promised for any place.
 #![tactic(auto)]
 
 ghost use Rattle.std.specs.Prelude.{◌≡◌};

@@ -1,4 +1,6 @@
-// What the lines are made of.
+// What the lines are made of. Crate `text` has the same words on a page of lent bytes, for the bench
+// program's lines; here they are `Display`, since `println!` prints the rows, and they check what the
+// calls answer without that crate.
 use card::{Answer, Failure};
 use std::fmt;
 use std::fmt::Display;

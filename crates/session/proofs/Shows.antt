@@ -20,7 +20,8 @@ use Rattle.form.specs.declared.Header.{Header}
 use Rattle.form.specs.declared.Checked.TheVariants.{Traced}
 use Rattle.form.specs.Session.{session, session_of, checked}
 use Rattle.form.specs.Replies.{replies_in}
-use Rattle.form.proofs.Rests.{held_trace, whole, whole_trace}
+use Rattle.form.specs.Calls.{Asked}
+use Rattle.form.proofs.Rests.{Held, held, held_trace, Whole, whole, whole_trace}
 use Rattle.form.proofs.Filling.{filled}
 use Rattle.text.specs.declared.Page.{Page}
 use Rattle.text.specs.Printed.{Printed, printed, written}
@@ -31,8 +32,22 @@ use Rattle.session.specs.Lines.{lines_of}
 use Rattle.session.specs.Writing.{writer_step, writer_ends, writer_text}
 use Rattle.session.specs.Reading.{reader_step, reader_ends, reader_text}
 use Rattle.session.specs.Session.{Ruled, Shown}
-use Rattle.session.specs.Steps.{Lines, Prints, Rules, Good, Ready}
+use Rattle.session.specs.Steps.{Lines, Prints, Rules, Passes}
 use Rattle.std.proofs.lemmas.List.{take-replicate}
+
+-- ---- what `Session` keeps
+
+-- a session without a fault, with its replies in a script
+pub record Ready (t : List ℕ) (header : Header) (script : List ℕ) : Type 0 where
+  pub stock : List ℕ
+  pub calls : List Asked
+  pub is : session_of t ≡ session header script stock calls
+
+pub ready : {t : List ℕ} {header : Header} {script : List ℕ} → Passes t header → script ≡ replies_in t header.replies header.script → Ready t header script
+ready {t} {header} {script} e these =
+    let h = held (session_of t) header (sym e) in
+    let w = whole t header h.replies h.stock h.calls h.is in
+    record { stock = h.stock; calls = h.calls; is = h.is ∙ ap (λ (l : List ℕ). session header l h.stock h.calls) (sym (these ∙ w.replies_these)) }
 
 -- ---- the calls of a session
 
@@ -93,23 +108,27 @@ module _ (t : List ℕ) (header : Header) (script : List ℕ) (g : Ready t heade
 
 -- ---- its replies
 
-module _ (t : List ℕ) (header : Header) (g : Good t header) (lent script : List ℕ) (room : length lent ≡ 4096) (e : script ≡ put lent 0 (replies_in t header.replies header.script) (min (length (replies_in t header.replies header.script)) (length lent))) where
-  pub these : take header.replies script ≡ g.replies
-  these =
-      let w = whole t header g.replies g.stock g.calls g.is in
-      let m = w.replies_most in
-      filled t header.replies header.script lent script g.replies e w.replies_these w.replies_count (omega arith)
+module _ (t : List ℕ) (header : Header) (good : Passes t header) where
+  g : Held (session_of t) header
+  g = held (session_of t) header (sym good)
 
-  pub these_long : header.replies ≡ length (take header.replies script)
-  these_long =
-      let w = whole t header g.replies g.stock g.calls g.is in
-      sym (ap (λ (l : List ℕ). length l) these ∙ w.replies_count)
+  w : Whole t header g.replies g.stock g.calls
+  w = whole t header g.replies g.stock g.calls g.is
 
-  pub ready : Ready t header (take header.replies script)
-  ready = record { stock = g.stock; calls = g.calls; is = g.is ∙ ap (λ (l : List ℕ). session header l g.stock g.calls) (sym these) }
+  pub replies_in_lem : (k : ℕ) → k ≡ 4096 → header.replies ≤ k
+  replies_in_lem k e = let m = w.replies_most in omega arith
 
-pub replies_in_lem : (t : List ℕ) (header : Header) (g : Good t header) (k : ℕ) → k ≡ 4096 → header.replies ≤ k
-replies_in_lem t header g k e = let m = (whole t header g.replies g.stock g.calls g.is).replies_most in omega arith
+  module _ (lent script : List ℕ) (room : length lent ≡ 4096) (e : script ≡ put lent 0 (replies_in t header.replies header.script) (min (length (replies_in t header.replies header.script)) (length lent))) where
+    these : take header.replies script ≡ g.replies
+    these =
+        let m = w.replies_most in
+        filled t header.replies header.script lent script g.replies e w.replies_these w.replies_count (omega arith)
+
+    pub these_long : header.replies ≡ length (take header.replies script)
+    these_long = sym (ap (λ (l : List ℕ). length l) these ∙ w.replies_count)
+
+    pub the_script : take header.replies script ≡ replies_in t header.replies header.script
+    the_script = these ∙ sym w.replies_these
 
 -- ---- the whole
 

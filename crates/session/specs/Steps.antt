@@ -1,11 +1,12 @@
 -- What the private functions of this crate promise each other; the public promise cites none of this.
 -- Assumes nothing.
-use Rattle.std.specs.Prelude.{ℕ, ◌≤◌, ◌≡◌, Bool, true, List, take}
+use Rattle.std.specs.Prelude.{ℕ, ◌≤◌, ◌≡◌, Bool, true, List, take, Ok}
 use Rattle.card.specs.Limits.{bytes_most}
 use Rattle.card.specs.Answers.{Said}
 use Rattle.form.specs.Replies.{word_most}
 use Rattle.form.specs.declared.Header.{Header}
-use Rattle.form.specs.Session.{Parsed, session, session_of}
+use Rattle.form.specs.declared.Checked.TheVariants.{Session}
+use Rattle.form.specs.Session.{Parsed, session_of, checked}
 use Rattle.form.specs.Lists.{listed}
 use Rattle.form.specs.Calls.{Asked, write, write_all, flush, read, peek, consume, seek_relative, fill, calls_from}
 use Rattle.text.specs.declared.Page.{Page}
@@ -55,15 +56,6 @@ Runs (consume n) = Unit
 Runs (seek_relative back size) = Bounded back size
 Runs fill = Unit
 
--- a session without a fault
-pub record Good (t : List ℕ) (header : Header) : Type 0 where
-  pub replies : List ℕ
-  pub stock : List ℕ
-  pub calls : List Asked
-  pub is : session_of t ≡ session header replies stock calls
-
--- the same, with its replies in a script
-pub record Ready (t : List ℕ) (header : Header) (script : List ℕ) : Type 0 where
-  pub stock : List ℕ
-  pub calls : List Asked
-  pub is : session_of t ≡ session header script stock calls
+-- a session without a fault: a check of it answers its header
+abbrev pub Passes : List ℕ → Header → Type 0
+Passes t header = checked (session_of t) ≡ Ok (Session header)

@@ -11,13 +11,14 @@ ghost use Rattle.reader.specs.World.{world};
 ghost use Rattle.reader.specs.Buffer as Reader;
 ghost use Rattle.session.specs.Writing.{writer_step, writer_ends};
 ghost use Rattle.session.specs.Reading.{reader_step, reader_ends};
-ghost use Rattle.session.specs.Steps.{Lines, Prints, Rules, Good, Ready};
+ghost use Rattle.session.specs.Steps.{Lines, Prints, Rules, Passes};
 ghost use Rattle.session.specs.Session.{Ruled, Shown};
+ghost use Rattle.form.specs.Replies.{replies_in};
 ghost use Rattle.form.specs.Session.{session_of};
 
 use card::limits::{BYTES_MOST, CAPACITY_MOST, SCRIPT_MOST};
 use flushing::BufWriter;
-use form::{Checked, Header, replies, whole};
+use form::{Checked, Header, READER, replies, whole};
 use judge::Verdict;
 use reader::{BufReader, State};
 use text::Page;
@@ -31,19 +32,19 @@ fn part(bytes: &[u8], start: usize, n: usize) -> &[u8]
     &rest[..n.min(rest.len())]
 }
 
-// A session without a fault, and its replies as the script. That it is so stands in clauses and in
-// no ghost field, since `Ready` has the stock and the calls that it speaks of.
+// A session without a fault, and its replies as the script.
 #[derive(Drop)]
 struct Session<'a> {
     bytes: &'a [u8],
     header: Header,
     script: &'a [u32],
+    ghost whole: { Passes bytes.now header },
+    ghost replies: { script.now ≡ replies_in bytes.now header.replies header.script },
 }
 
 impl Session<'_> {
     // A writer's calls, on storage of zeros and a medium of zeros.
     fn write_calls(&self, page: &mut Page<'_>)
-        requires { Ready self.now.bytes.now self.now.header self.now.script.now }
         ensures { Lines self.now.bytes.now self.now.header.kind self.now.header.count self.now.header.first (λ w call. writer_step self.now.header.kind self.now.script.now w call) writer_ends (Writer.new (replicate self.now.header.capacity 0) (replicate bytes_most 0)) page.old page.new }
     {
         let mut storage = [0u8; CAPACITY_MOST];
@@ -61,7 +62,6 @@ impl Session<'_> {
 
     // A reader's calls, on storage of zeros.
     fn read_calls(&self, page: &mut Page<'_>)
-        requires { Ready self.now.bytes.now self.now.header self.now.script.now }
         ensures { Lines self.now.bytes.now 2 self.now.header.count self.now.header.first (λ w call. reader_step self.now.script.now (take self.now.header.length (drop self.now.header.stock self.now.bytes.now)) w call) reader_ends (world (replicate self.now.header.capacity 0) Reader.new) page.old page.new }
     {
         let mut storage = [0u8; CAPACITY_MOST];
@@ -73,11 +73,10 @@ impl Session<'_> {
 
     // The session line, the calls and the end line.
     fn run_calls(&self, page: &mut Page<'_>)
-        requires { Ready self.now.bytes.now self.now.header self.now.script.now }
         ensures { Prints (session_of self.now.bytes.now) page.old page.new }
     {
         page.session_line(self.header.kind, self.header.capacity);
-        if self.header.kind == 2 {
+        if self.header.kind == READER {
             self.read_calls(page);
             return;
         }
@@ -87,7 +86,7 @@ impl Session<'_> {
 
 // A session without a fault: its replies become the script.
 fn run(bytes: &[u8], header: Header, page: &mut Page<'_>)
-    requires { Good bytes.now header }
+    requires { Passes bytes.now header }
     ensures { Prints (session_of bytes.now) page.old page.new }
 {
     let mut script = [0u32; SCRIPT_MOST];
@@ -123,7 +122,8 @@ fn print(session: &[u8], page: &mut Page<'_>)
 }
 
 // The judge's line of a trace, at the front of the output and cut where the output ends; the
-// answer is where it ends.
+// answer is where it ends. C calls this and the next by their names: with a closure for what is printed
+// they would be no shorter.
 #[tactic(auto, using(crate::proofs::Shows::ruled), unfolding(text::specs::Printed::written))]
 pub fn stackglow_judge(trace: &[u8], output: &mut [u8]) -> usize
     ensures { Ruled trace.now output.old result output.new }

@@ -10,7 +10,7 @@ ghost use Rattle.session.specs.Steps.{Shows, Bounded, Runs, Steps, Lines};
 
 use card::limits::BYTES_MOST;
 use card::{Answer, counted, uncounted};
-use form::{Call, Header, calls};
+use form::{Call, Header, READER, calls};
 use reader::BufReader;
 use text::{Name, Page};
 
@@ -51,7 +51,7 @@ fn read(r: &mut BufReader<'_>, n: usize, page: &mut Page<'_>)
     read_into(r, &mut destination[..n], page);
 }
 
-// The offset of a seek.
+// The offset of a seek. Direction and size are the session's two numbers (`form::Call`).
 fn offset(back: bool, size: usize) -> i64
     requires { Bounded back size }
     ensures { result ≡ offset_of back size }
@@ -60,7 +60,8 @@ fn offset(back: bool, size: usize) -> i64
     if back { -magnitude } else { magnitude }
 }
 
-// One call of the session, and its line.
+// One call of the session, and its line. The reader and the page are lent apart: what a line shows is
+// lent by the reader while the page changes, which a method of a struct of both could not do.
 fn step(session: &[u8], call: Call, r: &mut BufReader<'_>, page: &mut Page<'_>)
     requires { Runs (asked session.now call) }
     ensures lent { Lent r.old r.new }
@@ -88,13 +89,14 @@ fn step(session: &[u8], call: Call, r: &mut BufReader<'_>, page: &mut Page<'_>)
     }
 }
 
-// The calls of a session, and its end line.
+// The calls of a session, and its end line. `writing::run` is alike: one function for both would take
+// step and end as closures, and would have to say of any such closures what each says of its own.
 pub(crate) fn run(session: &[u8], header: Header, r: &mut BufReader<'_>, page: &mut Page<'_>)
     ensures { Lines session.now 2 header.count header.first (λ w call. reader_step r.old.script.now r.old.stock.now w call) reader_ends (world_of r.old) page.old page.new }
 {
     let mut place = header.first;
     for _ in 0..header.count {
-        let Ok((call, after)) = calls::read_call(session, 2, place) else {
+        let Ok((call, after)) = calls::read_call(session, READER, place) else {
             return;
         };
         step(session, call, r, page);

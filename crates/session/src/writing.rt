@@ -10,19 +10,19 @@ ghost use Rattle.session.specs.Writing.{told_write, told_write_all, writer_step,
 
 use card::{Answer, Failure, counted, uncounted};
 use flushing::BufWriter;
-use form::{Call, Header, calls};
+use form::{Call, Header, LINE_WRITER, calls};
 use line::linewriter;
 use text::{Name, Page};
 use writer::bufwriter;
 
-// The kind is the header's number: 1 is the line writer, any other the plain one. Each of the two
-// calls has its function: with closures for the writers' calls one function would be no shorter.
+// The kind is the header's number: the line writer's, and any other is the plain one's. Each of the
+// two calls has its function: with closures for the writers' calls one function would be no shorter.
 #[tactic(auto, using(crate::proofs::WriteSteps::line_write_is, crate::proofs::WriteSteps::write_is))]
 fn write(kind: usize, w: &mut BufWriter<'_, '_>, slice: &[u8]) -> Result<usize, Failure>
     ensures lent { Lent w.old w.new }
     ensures told { tells (said_count result) w.new ≡ told_write kind w.old.script.now (world w.old) slice.now }
 {
-    if kind == 1 {
+    if kind == LINE_WRITER {
         return linewriter::write(w, slice);
     }
     bufwriter::write(w, slice)
@@ -33,7 +33,7 @@ fn write_all(kind: usize, w: &mut BufWriter<'_, '_>, slice: &[u8]) -> Result<(),
     ensures lent { Lent w.old w.new }
     ensures told { tells (said_done result) w.new ≡ told_write_all kind w.old.script.now (world w.old) slice.now }
 {
-    if kind == 1 {
+    if kind == LINE_WRITER {
         return linewriter::write_all(w, slice);
     }
     bufwriter::write_all(w, slice)
@@ -46,7 +46,8 @@ fn line(page: &mut Page<'_>, name: Name, answer: Answer, w: &BufWriter<'_, '_>)
     page.writer_line(name, answer, w.calls, w.state.held, w.state.out);
 }
 
-// One call of the session, and its line.
+// One call of the session, and its line. The writer and the page are lent apart: `write` and
+// `write_all` want the writer alone.
 fn step(session: &[u8], kind: usize, call: Call, w: &mut BufWriter<'_, '_>, page: &mut Page<'_>)
     ensures lent { Lent w.old w.new }
     ensures steps { Steps (writer_step kind w.old.script.now (world w.old) (asked session.now call)) page.old page.new (world w.new) }
@@ -76,7 +77,7 @@ fn end(page: &mut Page<'_>, w: &BufWriter<'_, '_>)
     page.writer_end(held, crate::part(w.medium, 0, w.state.out));
 }
 
-// The calls of a session, and its end line.
+// The calls of a session, and its end line. `reading::run` says why each kind has a run of its own.
 pub(crate) fn run(session: &[u8], header: Header, w: &mut BufWriter<'_, '_>, page: &mut Page<'_>)
     ensures { Lines session.now header.kind header.count header.first (λ v call. writer_step header.kind w.old.script.now v call) writer_ends (world w.old) page.old page.new }
 {

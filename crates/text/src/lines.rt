@@ -1,4 +1,5 @@
-// The lines, each with its newline.
+// The lines, each with its newline. `session_line`, `writer_end` and `reader_end` are alike in shape
+// alone: other words, and hex where another has a number.
 ghost use Rattle.std.specs.Prelude.{◌≡◌};
 ghost use Rattle.card.specs.Answers.{said};
 ghost use Rattle.text.specs.Printed.{written};

@@ -1,5 +1,6 @@
-// What lines are made of: words, numbers, bytes in hex, names and answers. The bytes are promised one
-// by one, which std's Display does not do, so that digits are made here.
+// What lines are made of: words, numbers, bytes in hex, names and answers. Digits are made here: std's
+// `write!` promises its text only where it answers Ok, and of no writer that it does; a page promises
+// its text always.
 ghost use Rattle.std.specs.Prelude.{◌≡◌, [], ◌∷◌, ◌++◌, ◌/◌, ◌%◌, ◌<◌};
 ghost use Rattle.text.specs.Printed.{written};
 ghost use Rattle.text.specs.Words.{name_of};
@@ -59,7 +60,8 @@ impl Page<'_> {
         self.say(&[digit_byte(d)]);
     }
 
-    // A number in decimal.
+    // A number in decimal. It calls itself on the tenth part: so it needs no buffer, as the crate
+    // `itoa` would, and its two cases are the definition's.
     #[tactic(auto, using(crate::proofs::Decimals::prints_one, crate::proofs::Decimals::prints_more))]
     pub fn decimal(&mut self, n: usize)
         ensures { self.new ≡ written self.old (decimal_of n) }

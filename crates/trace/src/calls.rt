@@ -3,7 +3,7 @@ ghost use Rattle.std.specs.Prelude.{◌≡◌};
 ghost use Rattle.trace.specs.Calls.{traced, write_at, call_at};
 
 use crate::{TracedCall, claims};
-use card::{bytes, limits};
+use card::limits;
 use numbers::Fault;
 
 // A call with its claim: `length` bytes from `start` on. The flag is the call's (`TracedCall`).
@@ -32,7 +32,7 @@ fn read_rest(
 fn read_write(trace: &[u8], total: usize, at: usize) -> Result<TracedCall, Fault>
     ensures { result ≡ write_at trace.now total at }
 {
-    let most = bytes::left(limits::BYTES_MOST, total);
+    let most = limits::BYTES_MOST.saturating_sub(total);
     let (length, start) = numbers::read_length(trace, at, most)?;
     read_rest(trace, false, start, length, start + length)
 }

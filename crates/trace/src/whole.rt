@@ -15,6 +15,8 @@ pub fn check(trace: &[u8]) -> Result<Header, Fault>
 {
     let (capacity, next) = numbers::read_most(trace, 0, limits::CAPACITY_MOST)?;
     let (count, first) = numbers::read_most(trace, next, CALLS_MOST)?;
+    // Total and place are kept here: an iterator would keep the same two numbers, and give results
+    // that each turn would take apart as this one does.
     let mut total: usize = 0;
     let mut at = first;
     for _ in 0..count {
