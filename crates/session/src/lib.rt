@@ -122,7 +122,7 @@ fn print(session: &[u8], page: &mut Page<'_>)
 }
 
 // The judge's line of a trace, at the front of the output and cut where the output ends; the
-// answer is where it ends. C calls this and the next by their names: with a closure for what is printed
+// answer is where it ends. C has this and the next by their names: with a closure for what is printed
 // they would be no shorter.
 #[tactic(auto, using(crate::proofs::Shows::ruled), unfolding(text::specs::Printed::written))]
 pub fn stackglow_judge(trace: &[u8], output: &mut [u8]) -> usize

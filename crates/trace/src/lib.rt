@@ -7,8 +7,8 @@ pub mod calls;
 mod claims;
 pub mod whole;
 
-// The answer that a traced call claims. Ok has its count for a write; a flush is Done. No `card::Answer`:
-// a trace can claim neither whole nor refused.
+// The answer that a traced call claims. Ok has its count for a write; a flush is Done. It is no
+// `card::Answer`: a trace can claim neither whole nor refused.
 #[derive(Clone, Copy, Debug, PartialEq, Eq)]
 pub enum Claim {
     Ok(usize),
