@@ -1,7 +1,8 @@
-# Prints a line for each fault among the public functions: one without an `ensures`, with a
-# `requires`, or that docs/PROMISES.md does not name by its whole path, as `crate::module::name(`;
-# and for each function that the paper names and that is not there. The last line is the count of
-# public functions and of faults.
+# Prints a line for each fault among the public functions, the methods of a public trait among them:
+# one without an `ensures`, with a `requires`, or that docs/PROMISES.md does not name by its whole
+# path, as `crate::module::name(`, or `crate::module::Type::name(` for a method; and for each function
+# that the paper names and that is not there. The last line is the count of public functions and of
+# faults.
 # Files in this order: docs/PROMISES.md, then the sources, as crates/NAME/src/..rt.
 
 function fault(text) {
@@ -23,18 +24,33 @@ function module(file, path) {
 # What a paper says: every `path::name(` of it.
 FILENAME ~ /PROMISES\.md$/ {
     rest = $0
-    while (match(rest, /`([a-z_0-9]+::)+[a-z_0-9]+\(/)) {
+    while (match(rest, /`([A-Za-z_0-9]+::)+[a-z_0-9]+\(/)) {
         named[substr(rest, RSTART + 1, RLENGTH - 2)] = 1
         rest = substr(rest, RSTART + RLENGTH)
     }
     next
 }
 
-/^[ \t]*pub ((const|unsafe|extern "C") )*fn / {
+# Whose methods come next: a type's, or those that a public trait declares.
+/^(impl|pub trait)[ <]/ {
+    owner = $0
+    trait = owner ~ /^pub trait/
+    sub(/^(impl|pub trait)(<[^>]*>)? */, "", owner)
+    sub(/[^A-Za-z0-9_].*/, "", owner)
+    owner = owner "::"
+}
+
+/^}/ {
+    owner = ""
+    trait = 0
+}
+
+/^[ \t]*pub ((const|unsafe|extern "C") )*fn / || (trait && /^    fn /) {
     name = $0
+    sub(/^[ \t]*fn +/, "pub fn ", name)
     sub(/^[ \t]*pub ((const|unsafe|extern "C") )*fn +/, "", name)
     sub(/[^A-Za-z0-9_].*/, "", name)
-    path = module(FILENAME) "::" name
+    path = module(FILENAME) "::" owner name
     place = FILENAME ":" FNR " " name
     head = ""
     inside = 1
@@ -42,8 +58,8 @@ FILENAME ~ /PROMISES\.md$/ {
 
 inside {
     head = head $0 "\n"
-    # the body opens on a line of its own, or right after the types
-    if ($0 ~ /^[ \t]*\{[ \t]*$/ || $0 ~ /\)[ \t]*(->[^{]*)?\{/) {
+    # the body opens on a line of its own, or right after the types; a trait's method has none
+    if ($0 ~ /^[ \t]*\{[ \t]*$/ || $0 ~ /\)[ \t]*(->[^{]*)?\{/ || (trait && $0 ~ /;[ \t]*$/)) {
         inside = 0
         functions++
         there[path] = 1

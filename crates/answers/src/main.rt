@@ -3,84 +3,63 @@
 #![tactic(auto)]
 
 mod answer;
-mod fields;
-mod number;
 mod reading;
+mod request;
 mod writing;
 
 ghost use Rattle.std.specs.Prelude.{◌≡◌, length};
 
+use std::io;
 use std::io::{Read, Write};
 
+const INPUT_ROOM: usize = 65536;
+
 // More than the longest answer and its length.
-const OUTPUT_MOST: usize = 2400000;
+const OUTPUT_ROOM: usize = 2400000;
 
-fn output_room() -> [u8; OUTPUT_MOST]
-    ensures { 2400000 ≡ length result }
+// More requests than any run has: a loop that need not end would want a handle.
+const REQUESTS_MOST: u64 = 1000000000000;
+
+// Zeros. Their length is promised, so that no proof counts them.
+fn zeros<const N: usize>() -> [u8; N]
+    ensures { length result ≡ N }
 {
-    [0; OUTPUT_MOST]
-}
-
-// What follows the letter.
-fn rest(request: &[u8]) -> &[u8] {
-    let from = card::bytes::least(1, request.len());
-    &request[from..]
+    [0; N]
 }
 
 // Where the answer ends; a letter that is none has an empty one.
 fn answer_to(request: &[u8], output: &mut [u8]) -> usize {
-    let letter = number::byte(request, 0);
-    if letter == 115 {
-        return session::stackglow_session(rest(request), output);
+    match request {
+        [b's', rest @ ..] => session::stackglow_session(rest, output),
+        [b'j', rest @ ..] => session::stackglow_judge(rest, output),
+        [b'w', rest @ ..] => writing::answer(rest, output),
+        [b'r', rest @ ..] => reading::answer(rest, output),
+        _ => 0,
     }
-    if letter == 106 {
-        return session::stackglow_judge(rest(request), output);
-    }
-    if letter == 119 {
-        return writing::answer(request, output);
-    }
-    if letter == 114 {
-        return reading::answer(request, output);
-    }
-    0
 }
 
-// The answer after its length, as one write.
-fn send(rt: &HostRuntime, request: &[u8], output: &mut [u8]) -> bool {
-    let from = card::bytes::least(4, output.len());
-    let most = output.len() - from;
-    let n = card::bytes::least(answer_to(request, &mut output[from..]), most);
-    number::put(output, 0, n);
-    let end = card::bytes::least(from + n, output.len());
-    rt.stdout().write_all(&output[0..end]).is_ok()
-}
-
-// One request; false where the input has ended or the answer does not go out.
-fn serve(rt: &HostRuntime, input: &mut [u8], output: &mut [u8]) -> bool {
+// One request; its answer goes out after its length, as one write.
+fn serve(
+    rt: &HostRuntime,
+    input: &mut [u8; INPUT_ROOM],
+    output: &mut [u8; OUTPUT_ROOM],
+) -> io::Result<()> {
     let mut head = [0u8; 4];
-    if rt.stdin().read_exact(&mut head).is_err() {
-        return false;
-    }
-    let n = card::bytes::least(number::number(&head, 0), input.len());
-    if rt.stdin().read_exact(&mut input[0..n]).is_err() {
-        return false;
-    }
-    send(rt, &input[0..n], output)
-}
-
-// More requests than any run has.
-fn serve_all(rt: &HostRuntime, input: &mut [u8], output: &mut [u8]) {
-    let mut left = 1000000000000u64;
-    while 0 < left {
-        if !serve(rt, input, output) {
-            return;
-        }
-        left -= 1;
-    }
+    rt.stdin().read_exact(&mut head)?;
+    let n = (u32::from_le_bytes(head) as usize).min(input.len());
+    rt.stdin().read_exact(&mut input[..n])?;
+    let room = output.len() - 4;
+    let m = answer_to(&input[..n], &mut output[4..]).min(room);
+    output[..4].copy_from_slice(&(m as u32).to_le_bytes());
+    rt.stdout().write_all(&output[..4 + m])
 }
 
 fn main(rt: HostRuntime) {
-    let mut input = [0u8; 65536];
-    let mut output = output_room();
-    serve_all(&rt, &mut input, &mut output);
+    let mut input = zeros::<INPUT_ROOM>();
+    let mut output = zeros::<OUTPUT_ROOM>();
+    for _ in 0..REQUESTS_MOST {
+        if serve(&rt, &mut input, &mut output).is_err() {
+            return;
+        }
+    }
 }

@@ -1,151 +1,79 @@
 // A call of a writer, from a state and on bytes of the request's choice.
-use crate::{answer, fields, number};
-use card::bytes;
-use flushing::{Answered, State, flush};
+use crate::answer;
+use crate::request::Request;
+use card::limits::{BYTES_MOST, CAPACITY_MOST, SCRIPT_MOST};
+use card::{counted, uncounted};
+use flushing::{BufWriter, State};
 use line::linewriter;
+use text::Page;
 use writer::bufwriter;
 
-fn run(
-    call: usize,
-    state: State,
-    storage: &mut [u8],
-    script: &[u32],
-    medium: &mut [u8],
-    slice: &[u8],
-) -> Answered {
-    if call == 0 {
-        return bufwriter::write(state, storage, script, medium, slice);
+enum Call {
+    Write,
+    WriteAll,
+    Flush,
+    FlushBuf,
+    LineWrite,
+    LineWriteAll,
+}
+
+impl From<usize> for Call {
+    fn from(number: usize) -> Self {
+        match number {
+            0 => Call::Write,
+            1 => Call::WriteAll,
+            2 => Call::Flush,
+            3 => Call::FlushBuf,
+            4 => Call::LineWrite,
+            _ => Call::LineWriteAll,
+        }
     }
-    if call == 1 {
-        return bufwriter::write_all(state, storage, script, medium, slice);
-    }
-    if call == 2 {
-        return bufwriter::flush(state, storage, script, medium);
-    }
-    if call == 3 {
-        return flush::flush_buf(state, storage, script, medium);
-    }
-    if call == 4 {
-        return linewriter::write(state, storage, script, medium, slice);
-    }
-    linewriter::write_all(state, storage, script, medium, slice)
-}
-
-fn put(output: &mut [u8], a: Answered, storage: &[u8], medium: &[u8]) -> usize {
-    let answer = a.answer;
-    let state = a.state;
-    answer::put(output, answer, a.calls);
-    number::put(output, 12, state.held);
-    number::put(output, 16, state.out);
-    number::put(output, 20, state.used);
-    let next = answer::append(output, 24, storage);
-    answer::append(output, next, medium)
-}
-
-fn asked(
-    call: usize,
-    state: State,
-    storage: &mut [u8],
-    script: &[u32],
-    medium: &mut [u8],
-    slice: &[u8],
-    output: &mut [u8],
-) -> usize {
-    let a = run(call, state, storage, script, medium, slice);
-    put(output, a, storage, medium)
-}
-
-// Where the parts of a request are; the storage is first.
-fn held_at(request: &[u8]) -> usize {
-    fields::past_bytes(request, 5)
-}
-
-fn script_at(request: &[u8]) -> usize {
-    fields::after(request, held_at(request), 4)
-}
-
-fn used_at(request: &[u8]) -> usize {
-    fields::past_replies(request, script_at(request))
-}
-
-fn medium_at(request: &[u8]) -> usize {
-    fields::after(request, used_at(request), 4)
-}
-
-fn out_at(request: &[u8]) -> usize {
-    fields::past_bytes(request, medium_at(request))
-}
-
-fn slice_at(request: &[u8]) -> usize {
-    fields::after(request, out_at(request), 4)
-}
-
-fn state(request: &[u8]) -> State {
-    State {
-        held: number::number(request, held_at(request)),
-        out: number::number(request, out_at(request)),
-        used: number::number(request, used_at(request)),
-    }
-}
-
-fn with_storage(
-    request: &[u8],
-    storage: &mut [u8],
-    script: &[u32],
-    medium: &mut [u8],
-    output: &mut [u8],
-) -> usize {
-    let n = bytes::least(number::number(request, 5), storage.len());
-    asked(
-        number::number(request, 1),
-        state(request),
-        &mut storage[0..n],
-        script,
-        medium,
-        fields::lent(request, slice_at(request)),
-        output,
-    )
-}
-
-fn with_medium(
-    request: &[u8],
-    storage: &mut [u8],
-    script: &[u32],
-    medium: &mut [u8],
-    output: &mut [u8],
-) -> usize {
-    let n = bytes::least(number::number(request, medium_at(request)), medium.len());
-    with_storage(request, storage, script, &mut medium[0..n], output)
-}
-
-fn with_script(
-    request: &[u8],
-    storage: &mut [u8],
-    script: &[u32],
-    medium: &mut [u8],
-    output: &mut [u8],
-) -> usize {
-    let n = bytes::least(number::number(request, script_at(request)), script.len());
-    with_medium(request, storage, &script[0..n], medium, output)
-}
-
-fn loaded(
-    request: &[u8],
-    storage: &mut [u8],
-    script: &mut [u32],
-    medium: &mut [u8],
-    output: &mut [u8],
-) -> usize {
-    fields::load(request, 5, storage);
-    fields::load_replies(request, script_at(request), script);
-    fields::load(request, medium_at(request), medium);
-    with_script(request, storage, script, medium, output)
 }
 
 // Each limit can be passed by one.
+const CAPACITY: usize = CAPACITY_MOST + 1;
+
+const SCRIPT: usize = SCRIPT_MOST + 1;
+
+const MEDIUM: usize = BYTES_MOST + 1;
+
 pub(crate) fn answer(request: &[u8], output: &mut [u8]) -> usize {
-    let mut storage = [0u8; 1025];
-    let mut script = [0u32; 4097];
-    let mut medium = [0u8; 16385];
-    loaded(request, &mut storage, &mut script, &mut medium, output)
+    let mut request = Request { rest: request };
+    let call = Call::from(request.number());
+    let mut storage = [0u8; CAPACITY];
+    let storage = request.load(&mut storage);
+    let held = request.number();
+    let mut script = [0u32; SCRIPT];
+    let script = request.load_replies(&mut script);
+    let used = request.number();
+    let mut medium = [0u8; MEDIUM];
+    let medium = request.load(&mut medium);
+    let out = request.number();
+    let slice = request.bytes();
+    let mut w = BufWriter {
+        state: State { held, out, used },
+        storage,
+        script,
+        medium,
+        calls: 0,
+    };
+    let answer = match call {
+        Call::Write => counted(bufwriter::write(&mut w, slice)),
+        Call::WriteAll => uncounted(bufwriter::write_all(&mut w, slice)),
+        Call::Flush => uncounted(bufwriter::flush(&mut w)),
+        Call::FlushBuf => uncounted(w.flush_buf()),
+        Call::LineWrite => counted(linewriter::write(&mut w, slice)),
+        Call::LineWriteAll => uncounted(linewriter::write_all(&mut w, slice)),
+    };
+    let mut page = Page {
+        bytes: output,
+        at: 0,
+    };
+    answer::put(&mut page, answer, w.calls);
+    answer::number(&mut page, w.state.held);
+    answer::number(&mut page, w.state.out);
+    answer::number(&mut page, w.state.used);
+    page.say(w.storage);
+    page.say(w.medium);
+    page.at
 }

@@ -7,20 +7,21 @@ use std::io;
 use std::io::{Read, Write};
 
 // One more than a session may have, to know that it is too long.
-fn input_room() -> [u8; 32769]
-    ensures { 32769 ≡ length result }
-{
-    [0; 32769]
-}
+const INPUT_ROOM: usize = form::whole::SESSION_MOST + 1;
 
 // More than the longest text.
-fn output_room() -> [u8; 2400000]
-    ensures { 2400000 ≡ length result }
+const OUTPUT_ROOM: usize = 2400000;
+
+// Zeros. Their length is promised, so that no proof counts them. The program `answers` has the same:
+// the two share no library for it.
+fn zeros<const N: usize>() -> [u8; N]
+    ensures { length result ≡ N }
 {
-    [0; 2400000]
+    [0; N]
 }
 
-// Reads until the room is full or the input ends; the answer is how many bytes came.
+// Reads until the room is full or the input ends; the answer is how many bytes came. The library's
+// read_to_end fills a Vec, and there is no heap here.
 fn read_full<R: Read>(input: &mut R, room: &mut [u8]) -> io::Result<usize>
     ensures { IfOk result (λ n. n ≤ length room.new) }
 {
@@ -36,8 +37,8 @@ fn read_full<R: Read>(input: &mut R, room: &mut [u8]) -> io::Result<usize>
 }
 
 fn main(rt: HostRuntime) -> io::Result<()> {
-    let mut input = input_room();
-    let mut output = output_room();
+    let mut input = zeros::<INPUT_ROOM>();
+    let mut output = zeros::<OUTPUT_ROOM>();
     let n = read_full(&mut rt.stdin(), &mut input)?;
     let r = session::stackglow_session(&input[..n], &mut output);
     rt.stdout().write_all(&output[..r])

@@ -9,26 +9,26 @@ use lib.Dec.{leb, eqb}
 use lib.ListN.{get_or}
 use borrow.Author.Tests.{leb-false, eqb-false, ne_eqb}
 use Rattle.laws.specs.Pick.{pick}
-use Rattle.card.specs.declared.Reply.{Reply}
-use Rattle.card.specs.declared.Reply.TheVariants.{Accept, Interrupted, Error}
+use Rattle.std.specs.Prelude.{Ok, Err}
+use Rattle.card.specs.declared.DeviceError.TheVariants.{Interrupted, Error}
 use Rattle.card.specs.Answers.{Said}
-use Rattle.card.specs.Device.{reply_of, next, takes, at_most, exchange}
+use Rattle.card.specs.Device.{Reply, accept, interrupted, error, reply_of, next, takes, at_most, exchange}
 
 -- 1 for an answer, and for a reply, that is error code 0; else 0
 abbrev pub ended : Said → ℕ
 ended a = pick (eqb (get_or a 0 0) 3 && eqb (get_or a 1 1) 0) 1 0
 
 abbrev pub ended_by : Reply → ℕ
-ended_by (Accept n) = 0
-ended_by Interrupted = 0
-ended_by (Error code) = pick (eqb code 0) 1 0
+ended_by (Ok n) = 0
+ended_by (Err Interrupted) = 0
+ended_by (Err (Error code)) = pick (eqb code 0) 1 0
 
 -- no number of the script gives it
 pub no_end : (n most : ℕ) → ended_by (at_most most (reply_of n)) ≡ 0
 unfolding reply_of at_most
 no_end n most = by (leb n 65535) (eqb n 65536) (λ e. leb-false n 65535 e) (λ e. eqb-false n 65536 e)
   where
-    by : (b k : Bool) → (b ≡ false → 65535 < n) → (k ≡ false → n ≡ 65536 → ⊥) → ended_by (at_most most (pick b (Accept n) (pick k Interrupted (Error (n - 65536))))) ≡ 0
+    by : (b k : Bool) → (b ≡ false → 65535 < n) → (k ≡ false → n ≡ 65536 → ⊥) → ended_by (at_most most (pick b (accept n) (pick k interrupted (error (n - 65536))))) ≡ 0
     by true k h g = refl
     by false true h g = refl
     by false false h g =

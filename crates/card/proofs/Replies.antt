@@ -1,48 +1,64 @@
 -- The laws of one call of the device.
 -- Assumes nothing.
 use mathlib.Core.Path.{◌≡◌, refl, sym, ap, ◌∙◌}
+use mathlib.Core.Bool.{true, false}
 use mathlib.Core.List.{List, [], ◌∷◌}
 use Prim.Native.Nat.{ℕ, ◌+◌, ◌-◌, ◌≤◌, ◌<◌, min}
 use native.Mathlib.Nat.{add-zero}
 use native.Mathlib.Omega.{arith}
 use lib.ListN.{length, take, drop, get_or, length-drop, drop_of_length-le}
 use lib.Seq.{drop-cons}
+use lib.Dec.{ltb}
+use borrow.Author.Tests.{le-leb, lt-leb, ne_eqb}
+use Rattle.std.proofs.lemmas.Bool.{ltb-true, ltb-false}
+use Rattle.std.proofs.lemmas.Grind.{get_or_default_zero}
 use Rattle.laws.proofs.Parts.{rest, drop_least}
 use Rattle.laws.specs.Put.{put}
-use Rattle.card.specs.declared.Reply.{Reply}
-use Rattle.card.specs.declared.Reply.TheVariants.{Accept, Interrupted, Error}
+use Rattle.std.specs.Prelude.{Ok, Err}
 use Rattle.card.specs.declared.Exchange.{Exchange}
-use Rattle.card.specs.Device.{reply_of, next, takes, at_most, moves, exchange}
+use Rattle.card.specs.declared.DeviceError.{DeviceError}
+use Rattle.card.specs.Device.{Reply, accept, interrupted, error, reply_of, next, takes, at_most, moves, exchange}
 
 -- past the script's end
-pub at_end : (script : List ℕ) (used most : ℕ) → length script ≤ used → record { reply = Error 0; used = used } ≡ exchange (drop used script) used most
+pub at_end : (script : List ℕ) (used most : ℕ) → length script ≤ used → record { reply = error 0; used = used } ≡ exchange (drop used script) used most
 unfolding exchange next takes at_most
 at_end script used most h = rw (drop_of_length-le script h) (rw add-zero refl)
 
--- at a reply
-pub at_reply : (script : List ℕ) (used most : ℕ) (r : Reply) → r ≡ reply_of (get_or script used 0) → used < length script → record { reply = at_most most r; used = used + 1 } ≡ exchange (drop used script) used most
+-- at a reply, cut to what can move
+pub at_reply : (script : List ℕ) (used most : ℕ) (r k : Reply) → k ≡ at_most most r → r ≡ reply_of (get_or script used 0) → used < length script → record { reply = k; used = used + 1 } ≡ exchange (drop used script) used most
 unfolding exchange next takes
-at_reply script used most r e h = rw (drop-cons script used 0 h) (rw e refl)
+at_reply script used most r k q e h = rw (drop-cons script used 0 h) (rw q (rw e refl))
 
--- the same by cases, as a match on the reply leaves it
-pub at_accept : (script : List ℕ) (used most n k : ℕ) → k ≡ min n most → Accept n ≡ reply_of (get_or script used 0) → used < length script → record { reply = Accept k; used = used + 1 } ≡ exchange (drop used script) used most
-unfolding at_most
-at_accept script used most n k q e h = rw q (at_reply script used most (Accept n) e h)
+-- the same of what a look at the script's place gave, if anything
+pub past_end : (script : List ℕ) (used most : ℕ) → false ≡ ltb used (length script) → record { reply = error 0; used = used } ≡ exchange (drop used script) used most
+past_end script used most h = at_end script used most (ltb-false used (length script) (sym h))
 
-pub at_interrupted : (script : List ℕ) (used most : ℕ) → Interrupted ≡ reply_of (get_or script used 0) → used < length script → record { reply = Interrupted; used = used + 1 } ≡ exchange (drop used script) used most
-unfolding at_most
-at_interrupted script used most e h = at_reply script used most Interrupted e h
+pub at_number : (script : List ℕ) (used most n : ℕ) (r k : Reply) → k ≡ at_most most r → r ≡ reply_of n → (true ≡ ltb used (length script)) × (n ≡ get_or script used n) → record { reply = k; used = used + 1 } ≡ exchange (drop used script) used most
+at_number script used most n r k q e h =
+    let inside : used < length script = ltb-true used (length script) (sym h.0) in
+    at_reply script used most r k q (e ∙ ap reply_of (h.1 ∙ get_or_default_zero script used n inside)) inside
 
-pub at_error : (script : List ℕ) (used most code : ℕ) → Error code ≡ reply_of (get_or script used 0) → used < length script → record { reply = Error code; used = used + 1 } ≡ exchange (drop used script) used most
-unfolding at_most
-at_error script used most code e h = at_reply script used most (Error code) e h
+-- a number of the script by its three ranges
+pub accepts : (n : ℕ) → n ≤ 65535 → accept n ≡ reply_of n
+unfolding reply_of
+accepts n h = simp (le-leb _ _ h)
+
+pub pauses : (n : ℕ) → n ≡ 65536 → interrupted ≡ reply_of n
+unfolding reply_of
+pauses n e = rw e refl
+
+pub fails : (n : ℕ) → 65536 < n → error (n - 65536) ≡ reply_of n
+unfolding reply_of
+fails n h =
+    let above : 65535 < n = omega arith in
+    let other : n ≡ 65536 → ⊥ = λ e. omega arith in
+    simp (lt-leb _ _ above, ne_eqb _ _ other)
 
 -- no more moves than can
 pub moves_most : (most : ℕ) (r : Reply) → moves (at_most most r) ≤ most
 unfolding at_most
-moves_most most (Accept n) = omega arith
-moves_most most Interrupted = omega arith
-moves_most most (Error code) = omega arith
+moves_most most (Ok n) = omega arith
+moves_most most (Err e) = omega arith
 
 pub exchange_most : (left : List ℕ) (used most : ℕ) → moves (exchange left used most).reply ≤ most
 unfolding exchange
@@ -68,14 +84,14 @@ rest_fits a n k s e =
     rw h (omega arith)
 
 -- a call takes a reply unless it fails at the script's end, and never one that is not there
-pub takes_accept : (left : List ℕ) (most t : ℕ) → at_most most (next left) ≡ Accept t → takes left ≡ 1
+pub takes_accept : (left : List ℕ) (most t : ℕ) → at_most most (next left) ≡ accept t → takes left ≡ 1
 unfolding next takes at_most
 takes_accept [] most t q =
     let z : ◌≡◌ {A = ℕ} 0 1 = cc in
     absurd (omega arith)
 takes_accept (n ∷ rest) most t q = refl
 
-pub takes_interrupted : (left : List ℕ) (most : ℕ) → at_most most (next left) ≡ Interrupted → takes left ≡ 1
+pub takes_interrupted : (left : List ℕ) (most : ℕ) → at_most most (next left) ≡ interrupted → takes left ≡ 1
 unfolding next takes at_most
 takes_interrupted [] most q =
     let z : ◌≡◌ {A = ℕ} 0 1 = cc in
@@ -100,3 +116,7 @@ reply_of_exchange e left used most p = sym (ap (λ (x : Exchange). x.reply) p)
 pub used_of_exchange : (e : Exchange) (left : List ℕ) (used most : ℕ) → e ≡ exchange left used most → e.used ≡ used + takes left
 unfolding exchange
 used_of_exchange e left used most p = ap (λ (x : Exchange). x.used) p
+
+-- a reply that is no, for a reason that is known
+pub because : (r : Reply) (e d : DeviceError) → r ≡ Err e → e ≡ d → r ≡ Err d
+because r e d p q = rw (← q) p

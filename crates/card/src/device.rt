@@ -1,58 +1,49 @@
-// The device's calls.
+// The device's calls. Script, medium and stock go in each with a place: the writer and the reader have
+// all of them, and a struct of two would be made for one call.
 ghost use Rattle.std.specs.Prelude.{◌≡◌, ◌+◌, ◌-◌, min, length, drop};
 ghost use Rattle.laws.specs.Put.{put};
-ghost use Rattle.card.specs.Device.{reply_of, exchange, moves};
+ghost use Rattle.card.specs.Device.{reply_of, at_most, exchange, moves};
 
-use crate::{Exchange, Reply, bytes};
+use crate::{DeviceError, Exchange, Reply, bytes};
 
-// A number of the script as a reply.
+// A number of the script as a reply. No `From`, since a reply is std's own type.
 fn reply_of(n: u32) -> Reply
     ensures { result ≡ reply_of n }
 {
-    if n <= 65535 {
-        return Reply::Accept(n as usize);
+    match n {
+        0..=65535 => Ok(n as usize),
+        65536 => Err(DeviceError::Interrupted),
+        _ => Err(DeviceError::Error(n - 65536)),
     }
-    if n == 65536 {
-        return Reply::Interrupted;
-    }
-    Reply::Error(n - 65536)
 }
 
-// The bytes that move at a reply.
+// The bytes that move at a reply: std's `unwrap_or`, which stands by its name because it is public.
 pub fn moved(reply: Reply) -> usize
     ensures { result ≡ moves reply }
 {
-    match reply {
-        Reply::Accept(n) => n,
-        Reply::Interrupted => 0,
-        Reply::Error(_) => 0,
-    }
+    reply.unwrap_or(0)
+}
+
+// A reply cut to what there is room for.
+pub fn cut(reply: Reply, most: usize) -> Reply
+    ensures { result ≡ at_most most reply }
+{
+    reply.map(|n| n.min(most))
 }
 
 // One call of the device at which at most `most` bytes can move.
 fn ask(script: &[u32], used: usize, most: usize) -> Exchange
     ensures { result ≡ exchange (drop used script.now) used most }
 {
-    if script.len() <= used {
+    let Some(n) = script.get(used) else {
         return Exchange {
-            reply: Reply::Error(0),
+            reply: Err(DeviceError::Error(0)),
             used,
         };
-    }
-    let reply = reply_of(script[used]);
-    match reply {
-        Reply::Accept(n) => Exchange {
-            reply: Reply::Accept(bytes::least(n, most)),
-            used: used + 1,
-        },
-        Reply::Interrupted => Exchange {
-            reply: Reply::Interrupted,
-            used: used + 1,
-        },
-        Reply::Error(code) => Exchange {
-            reply: Reply::Error(code),
-            used: used + 1,
-        },
+    };
+    Exchange {
+        reply: cut(reply_of(*n), most),
+        used: used + 1,
     }
 }
 
@@ -60,10 +51,9 @@ fn ask(script: &[u32], used: usize, most: usize) -> Exchange
 pub fn write(script: &[u32], used: usize, offered: &[u8], medium: &mut [u8], out: usize) -> Exchange
     ensures { (result ≡ exchange (drop used script.now) used (min (length offered.now) (length medium.old - out))) × (medium.new ≡ put medium.old out offered.now (moves result.reply)) }
 {
-    let room = bytes::left(medium.len(), out);
-    let e = ask(script, used, bytes::least(offered.len(), room));
-    let reply = e.reply;
-    bytes::copy(medium, out, offered, moved(reply));
+    let room = medium.len().saturating_sub(out);
+    let e = ask(script, used, offered.len().min(room));
+    bytes::copy(medium, out, offered, moved(e.reply));
     e
 }
 
@@ -71,11 +61,9 @@ pub fn write(script: &[u32], used: usize, offered: &[u8], medium: &mut [u8], out
 pub fn read(script: &[u32], used: usize, room: &mut [u8], stock: &[u8], taken: usize) -> Exchange
     ensures { (result ≡ exchange (drop used script.now) used (min (length room.old) (length stock.now - taken))) × (room.new ≡ put room.old 0 (drop taken stock.now) (moves result.reply)) }
 {
-    let from = bytes::least(taken, stock.len());
-    let rest = &stock[from..];
-    let e = ask(script, used, bytes::least(room.len(), rest.len()));
-    let reply = e.reply;
-    bytes::copy(room, 0, rest, moved(reply));
+    let rest = &stock[taken.min(stock.len())..];
+    let e = ask(script, used, room.len().min(rest.len()));
+    bytes::copy(room, 0, rest, moved(e.reply));
     e
 }
 

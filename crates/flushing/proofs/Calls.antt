@@ -13,13 +13,15 @@ use borrow.Author.Tests.{eq-eqb, ne_eqb, eqb-true}
 use Rattle.laws.proofs.Picks.{by_test}
 use Rattle.laws.specs.Put.{put}
 use Rattle.laws.proofs.Puts.{put-take}
-use Rattle.card.specs.Answers.{Said, said, done, refused}
-use Rattle.card.specs.Limits.{refusal_of}
-use Rattle.card.proofs.Refusals.{Unrefused, unrefused, within_limits}
+use Rattle.card.specs.Answers.{Said, done, refused}
+use Rattle.card.specs.Limits.{refusal_of, refusal_number}
+use Rattle.card.specs.declared.limits.Numbers.{Numbers}
+use Rattle.card.specs.declared.limits.Refusal.{Refusal}
+use Rattle.card.proofs.Refusals.{Unrefused, unrefused, within_limits, own_row, other_row, refusal_some}
 use Rattle.flushing.specs.declared.State.{State}
-use Rattle.flushing.specs.declared.Answered.{Answered}
+use Rattle.flushing.specs.declared.BufWriter.{BufWriter}
 use Rattle.flushing.specs.declared.Sent.{Sent}
-use Rattle.flushing.specs.World.{World, Called, Told, Fit, Sound, capacity, world_of, world_after, told, reported, refusing, begun, is_ok}
+use Rattle.flushing.specs.World.{World, Called, Answered, Told, numbers, world, Fit, Sound, capacity, world_of, world_after, told, reported, refusing, begun, is_ok}
 use Rattle.flushing.specs.Send.{flush_said, send_from}
 use Rattle.flushing.specs.Flush.{flush_buf, flush_buf_call}
 use Rattle.flushing.proofs.Sends.{within}
@@ -55,6 +57,42 @@ module _ (script st me : List ℕ) (state : State) (number own : ℕ) (pn : numb
       record {
         none = within_limits (length st) (length script) (length me) 0 state.held state.out state.used u.capacity_within u.script_within u.device_most u.filled_fits u.pos_fits u.moved_fits u.used_fits;
       }
+
+-- a writer whose numbers were asked of the limits
+module _ (v : BufWriter) (n : Numbers) (pn : n ≡ numbers v) where
+  refusal_here : ℕ → ℕ
+  refusal_here own = refusal_of (length v.storage.now) (length v.script.now) (length v.medium.now) 0 v.state.held v.state.out v.state.used own
+
+  here : (k : ℕ) → k ≡ refusal_of n.capacity n.script n.device n.pos n.filled n.moved n.used 0 → k ≡ refusal_here 0
+  unfolding refusal_here
+  here k e = e ∙ ap (λ (m : Numbers). refusal_of m.capacity m.script m.device m.pos m.filled m.moved m.used 0) pn
+
+  -- refused by them
+  pub refused_told : (r : Refusal) (own : ℕ) (call : World → Called) → refusal_number r ≡ refusal_of n.capacity n.script n.device n.pos n.filled n.moved n.used 0 → record { answer = refused (refusal_number r); calls = 0; held = v.state.held; out = v.state.out; used = v.state.used; storage = v.storage.now; medium = v.medium.now } ≡ reported (refusing v.script.now (world v) own call)
+  unfolding refusal_here
+  refused_told r own call e =
+      refused_is v.script.now v.storage.now v.medium.now v.state (refusal_number r) own
+      (other_row (length v.storage.now) (length v.script.now) (length v.medium.now) 0 v.state.held v.state.out v.state.used own (refusal_number r) (here (refusal_number r) e) (refusal_some r (refusal_number r) refl))
+      call (refusal_some r (refusal_number r) refl)
+
+  module _ (none : 0 ≡ refusal_of n.capacity n.script n.device n.pos n.filled n.moved n.used 0) where
+    own_here : (own : ℕ) → own ≡ refusal_here own
+    unfolding refusal_here
+    own_here own = own_row (length v.storage.now) (length v.script.now) (length v.medium.now) 0 v.state.held v.state.out v.state.used own (sym (here 0 none))
+
+    -- refused for its own reason
+    pub own_told : (r : Refusal) (own : ℕ) (call : World → Called) → refusal_number r ≡ own → record { answer = refused (refusal_number r); calls = 0; held = v.state.held; out = v.state.out; used = v.state.used; storage = v.storage.now; medium = v.medium.now } ≡ reported (refusing v.script.now (world v) own call)
+    unfolding refusal_here
+    own_told r own call e = refused_is v.script.now v.storage.now v.medium.now v.state (refusal_number r) own (e ∙ own_here own) call (refusal_some r (refusal_number r) refl)
+
+    -- not refused
+    pub unrefused_told : (own : ℕ) (call : World → Called) (t : Told) → 0 ≡ own → t ≡ reported (call (world v)) → t ≡ reported (refusing v.script.now (world v) own call)
+    unfolding refusal_here
+    unrefused_told own call t e q = unrefused_is v.script.now v.storage.now v.medium.now v.state own own (own_here own) call t (sym e) q
+
+    pub sound_here : Sound v.script.now (world v)
+    unfolding refusal_here
+    sound_here = record { none = sym (here 0 none) }
 
 -- what soundness says of the numbers
 pub limits : (script : List ℕ) (w : World) → Sound script w → Unrefused (capacity w) (length script) (length w.medium) 0 w.held w.out w.used 0
@@ -105,14 +143,14 @@ module _ (script st me : List ℕ) (state : State) (sound : Sound script (world_
 -- ---- the flush, for those who call it
 
 module _ (script st me : List ℕ) (state : State) (r : Answered) (x y : List ℕ) (e : told r x y ≡ reported (flush_buf_call script (world_of state st me))) (sound : Sound script (world_of state st me)) where
-  pub flush_made : flush_buf script (world_of state st me) ≡ record { answer = said r.answer; world = world_after r.state x y r.calls }
+  pub flush_made : flush_buf script (world_of state st me) ≡ record { answer = r.answer; world = world_after r.state x y r.calls }
   unfolding flush_buf_call
   flush_made =
       told_called (flush_buf script (world_of state st me)) r x y
       (e ∙ ap reported (sound_call script (world_of state st me) (λ v. flush_buf script v) sound))
       (keeps script (world_of state st me) (sound_fit script (world_of state st me) sound (omega arith))).flushes_same
 
-  kept : Keeps script (world_of state st me) (record { answer = said r.answer; world = world_after r.state x y r.calls })
+  kept : Keeps script (world_of state st me) (record { answer = r.answer; world = world_after r.state x y r.calls })
   kept = subst (λ (c : Called). Keeps script (world_of state st me) c) flush_made (keeps script (world_of state st me) (sound_fit script (world_of state st me) sound (omega arith)))
 
   pub flush_sound : Sound script (world_of r.state x y)
@@ -122,21 +160,21 @@ module _ (script st me : List ℕ) (state : State) (r : Answered) (x y : List �
       sound_on script (world_of state st me) (world_of r.state x y) sound k.storage_long k.medium_long (omega (arith, k.held_most, u.filled_fits)) k.out_fits k.used_fits
 
   -- where it succeeded, nothing is held, and the next step can go on
-  pub flush_ready : is_ok (said r.answer) ≡ true → Fit script (world_after r.state x y r.calls) × (r.state.held ≡ 0)
+  pub flush_ready : is_ok (r.answer) ≡ true → Fit script (world_after r.state x y r.calls) × (r.state.held ≡ 0)
   flush_ready o =
-      let q : (flush_buf script (world_of state st me)).answer ≡ said r.answer = ap (λ (c : Called). c.answer) flush_made in
-      let d : said r.answer ≡ done = sym q ∙ flush_ok_done script (world_of state st me) (rw q o) in
+      let q : (flush_buf script (world_of state st me)).answer ≡ r.answer = ap (λ (c : Called). c.answer) flush_made in
+      let d : r.answer ≡ done = sym q ∙ flush_ok_done script (world_of state st me) (rw q o) in
       fit_after script (world_of state st me) (world_after r.state x y r.calls) (sound_fit script (world_of state st me) sound (omega arith))
       (flush_made ∙ ap (λ (a : Said). record { answer = a; world = world_after r.state x y r.calls }) d)
 
 -- a flush that succeeded was not refused
-pub flush_unrefused : (script st me : List ℕ) (state : State) (r : Answered) (x y : List ℕ) → told r x y ≡ reported (flush_buf_call script (world_of state st me)) → is_ok (said r.answer) ≡ true → Sound script (world_of state st me)
+pub flush_unrefused : (script st me : List ℕ) (state : State) (r : Answered) (x y : List ℕ) → told r x y ≡ reported (flush_buf_call script (world_of state st me)) → is_ok (r.answer) ≡ true → Sound script (world_of state st me)
 unfolding flush_buf_call refusing
 flush_unrefused script st me state r x y e o =
     by_test (eqb (refusal_of (length st) (length script) (length me) 0 state.held state.out state.used 0) 0)
     (λ t. record { none = eqb-true _ 0 t })
     (λ t.
-    let q : said r.answer ≡ refused (refusal_of (length st) (length script) (length me) 0 state.held state.out state.used 0) = ap (λ (u : Told). u.answer) (rw t at e) in
-    let n : is_ok (said r.answer) ≡ false = ap is_ok q in
+    let q : r.answer ≡ refused (refusal_of (length st) (length script) (length me) 0 state.held state.out state.used 0) = ap (λ (u : Told). u.answer) (rw t at e) in
+    let n : is_ok (r.answer) ≡ false = ap is_ok q in
     let z : ◌≡◌ {A = ℕ} 0 1 = cc in
     absurd (omega arith))

@@ -5,29 +5,35 @@ use mathlib.Core.Bool.{true, false}
 use mathlib.Core.List.{List}
 use Prim.Native.Nat.{ℕ}
 use native.Mathlib.Omega.{arith}
-use Rattle.card.specs.Answers.{Said, done}
-use Rattle.flushing.specs.declared.Outcome.{Outcome}
-use Rattle.flushing.specs.declared.Outcome.TheVariants.{Done, Zero, Failed}
+use Rattle.card.specs.Answers.{Said, done, failed}
 use Rattle.flushing.specs.World.{World, Called, Fit, room, replies, is_ok, and_then}
-use Rattle.flushing.specs.Send.{flush_said, send_from}
+use Rattle.flushing.specs.Send.{flush_said, flush_failure, send_from, Outcome}
 use Rattle.flushing.specs.Flush.{flush_buf}
 use Rattle.flushing.proofs.Flushes.{fit_after}
 use Rattle.flushing.proofs.Thens.{then_cases}
+use Rattle.std.specs.Prelude.{Ok, Err}
+use Rattle.flushing.specs.declared.Stop.{Stop}
+use Rattle.flushing.specs.declared.Stop.TheVariants.{Zero, Failed}
 
 flush_outcome : (o : Outcome) → is_ok (flush_said o) ≡ true → flush_said o ≡ done
-flush_outcome Done e = refl
-flush_outcome Zero e = absurd (true_false e)
+flush_outcome (Ok nothing) e = refl
+flush_outcome (Err Zero) e = absurd (true_false e)
   where
     true_false : false ≡ true → ⊥
     true_false q =
         let z : ◌≡◌ {A = ℕ} 0 1 = cc in
         omega arith
-flush_outcome (Failed code) e = absurd (true_false e)
+flush_outcome (Err (Failed code)) e = absurd (true_false e)
   where
     true_false : false ≡ true → ⊥
     true_false q =
         let z : ◌≡◌ {A = ℕ} 0 1 = cc in
         omega arith
+
+-- what a stopped run is handed up as says what it says
+pub failure_says : (stop : Stop) (o : Outcome) → o ≡ Err stop → failed (flush_failure stop) ≡ flush_said o
+failure_says Zero o e = rw e refl
+failure_says (Failed code) o e = rw e refl
 
 pub flush_ok_done : (script : List ℕ) (w : World) → is_ok (flush_buf script w).answer ≡ true → (flush_buf script w).answer ≡ done
 unfolding flush_buf

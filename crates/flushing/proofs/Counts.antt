@@ -10,37 +10,36 @@ use lib.Dec.{eqb}
 use borrow.Author.Tests.{eqb-true}
 use Rattle.laws.specs.Pick.{pick}
 use Rattle.laws.proofs.Picks.{pick_holds}
-use Rattle.card.specs.declared.Reply.{Reply}
-use Rattle.card.specs.declared.Reply.TheVariants.{Accept, Interrupted, Error}
 use Rattle.card.specs.Answers.{Said}
 use Rattle.card.specs.Limits.{refusal_of}
-use Rattle.card.specs.Device.{reply_of, at_most}
+use Rattle.card.specs.Device.{reply_of, at_most, Reply}
 use Rattle.card.proofs.Ends.{ended, ended_by, no_end}
-use Rattle.flushing.specs.declared.Outcome.{Outcome}
-use Rattle.flushing.specs.declared.Outcome.TheVariants.{Done, Zero, Failed}
 use Rattle.flushing.specs.declared.Sent.{Sent}
 use Rattle.flushing.specs.declared.State.{State}
 use Rattle.flushing.specs.World.{World, Called, Told, room, replies, is_ok, and_then, nothing, begun, refusing, world_of, reported}
-use Rattle.flushing.specs.Send.{flush_said, send_from, on_reply}
+use Rattle.flushing.specs.Send.{flush_said, send_from, on_reply, Outcome}
 use Rattle.flushing.specs.Flush.{flush_buf, flush_buf_call}
 use Rattle.flushing.proofs.Sends.{within}
 use Rattle.flushing.proofs.Thens.{then_cases}
+use Rattle.std.specs.Prelude.{Ok, Err}
+use Rattle.card.specs.declared.DeviceError.TheVariants.{Interrupted, Error}
+use Rattle.flushing.specs.declared.Stop.TheVariants.{Zero, Failed}
 
 -- ---- a run of device writes
 
 abbrev pub ended_out : Outcome → ℕ
-ended_out Done = 0
-ended_out Zero = 0
-ended_out (Failed code) = pick (eqb code 0) 1 0
+ended_out (Ok nothing) = 0
+ended_out (Err Zero) = 0
+ended_out (Err (Failed code)) = pick (eqb code 0) 1 0
 
 -- the writes made since there were `writes` are the replies taken since `used`, and one more at the script's end
 unfoldable pub Counts : ℕ → ℕ → Sent → Type 0
 Counts used writes f = f.writes + used ≡ f.used + writes + ended_out f.outcome
 
-on_counts : (used writes : ℕ) (r : Reply) (accept : ℕ → Sent) (interrupted : Sent) (error : ℕ → Sent) → ((t : ℕ) → Counts used writes (accept t)) → Counts used writes interrupted → ((code : ℕ) → r ≡ Error code → Counts used writes (error code)) → Counts used writes (on_reply r accept interrupted error)
-on_counts used writes (Accept n) accept interrupted error a i e = a n
-on_counts used writes Interrupted accept interrupted error a i e = i
-on_counts used writes (Error code) accept interrupted error a i e = e code refl
+on_counts : (used writes : ℕ) (r : Reply) (accept : ℕ → Sent) (interrupted : Sent) (error : ℕ → Sent) → ((t : ℕ) → Counts used writes (accept t)) → Counts used writes interrupted → ((code : ℕ) → r ≡ Err (Error code) → Counts used writes (error code)) → Counts used writes (on_reply r accept interrupted error)
+on_counts used writes (Ok n) accept interrupted error a i e = a n
+on_counts used writes (Err Interrupted) accept interrupted error a i e = i
+on_counts used writes (Err (Error code)) accept interrupted error a i e = e code refl
 
 pub send_counts : (l : List ℕ) (left space sent used writes : ℕ) → Counts used writes (send_from l left space sent used writes)
 unfolding send_from Counts
@@ -51,7 +50,7 @@ send_counts (n ∷ rest) left space sent used writes =
     (λ t. pick_holds (Counts used writes) (eqb t 0) _ _ (λ z. omega arith) (λ z. omega (arith, send_counts rest (left - t) (space - t) (sent + t) (used + 1) (writes + 1))))
     (omega (arith, send_counts rest left space sent (used + 1) (writes + 1)))
     (λ code q.
-    let none : ended_by (Error code) ≡ 0 = sym (ap ended_by q) ∙ no_end n (min left space) in
+    let none : ended_by (Err (Error code)) ≡ 0 = sym (ap ended_by q) ∙ no_end n (min left space) in
     omega arith))
 
 -- ---- the parts of a call, from world w
@@ -60,9 +59,9 @@ unfoldable pub Reports : World → Called → Type 0
 Reports w c = c.world.writes + c.world.flushes + w.used ≡ c.world.used + w.writes + w.flushes + ended c.answer
 
 flush_ended : (o : Outcome) → ended (flush_said o) ≡ ended_out o
-flush_ended Done = refl
-flush_ended Zero = refl
-flush_ended (Failed code) = refl
+flush_ended (Ok nothing) = refl
+flush_ended (Err Zero) = refl
+flush_ended (Err (Failed code)) = refl
 
 pub flush_buf_counts : (script : List ℕ) (w : World) → Reports w (flush_buf script w)
 unfolding flush_buf Reports Counts

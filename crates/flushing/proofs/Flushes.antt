@@ -7,13 +7,13 @@ use native.Mathlib.Omega.{arith}
 use lib.ListN.{length, drop, length-drop}
 use Rattle.laws.proofs.Puts.{length-put}
 use Rattle.card.specs.Answers.{done}
-use Rattle.flushing.specs.declared.Outcome.{Outcome}
-use Rattle.flushing.specs.declared.Outcome.TheVariants.{Done, Zero, Failed}
 use Rattle.flushing.specs.declared.Sent.{Sent}
 use Rattle.flushing.specs.World.{World, Called, Fit, replies, room}
-use Rattle.flushing.specs.Send.{flush_said, send_from}
+use Rattle.flushing.specs.Send.{flush_said, send_from, Outcome}
 use Rattle.flushing.specs.Flush.{flush_buf, flushed_by}
 use Rattle.flushing.proofs.Sends.{Within, within}
+use Rattle.std.specs.Prelude.{Ok, Err}
+use Rattle.flushing.specs.declared.Stop.TheVariants.{Zero, Failed}
 
 pub record Keeps (script : List ℕ) (w : World) (c : Called) : Type 0 where
   pub storage_long : length c.world.storage ≡ length w.storage
@@ -27,12 +27,12 @@ pub record Keeps (script : List ℕ) (w : World) (c : Called) : Type 0 where
   pub stopped : (c.answer ≡ done → ⊥) → 0 < c.world.held
 
 -- only Done says done
-done_only : (o : Outcome) → flush_said o ≡ done → o ≡ Done
-done_only Done e = refl
-done_only Zero e =
+done_only : (o : Outcome) → flush_said o ≡ done → o ≡ (Ok tt)
+done_only (Ok nothing) e = refl
+done_only (Err Zero) e =
     let z : ◌≡◌ {A = ℕ} 0 1 = cc in
     absurd (omega arith)
-done_only (Failed code) e =
+done_only (Err (Failed code)) e =
     let z : ◌≡◌ {A = ℕ} 0 1 = cc in
     absurd (omega arith)
 

@@ -6,9 +6,8 @@ use mathlib.Core.List.{List}
 use Prim.Native.Nat.{ℕ, ◌+◌}
 use native.Mathlib.Nat.{add-zero}
 use native.Mathlib.Omega.{arith}
-use Rattle.card.specs.Answers.{said}
 use Rattle.flushing.specs.declared.State.{State}
-use Rattle.flushing.specs.declared.Answered.{Answered}
+use Rattle.flushing.specs.World.{Answered}
 use Rattle.flushing.specs.declared.Sent.{Sent}
 use Rattle.flushing.specs.World.{World, Called, Told, Sound, room, replies, is_ok, and_then, world_of, world_after, told, reported, refusing, begun}
 use Rattle.flushing.specs.Flush.{flush_buf, flushed_by}
@@ -40,7 +39,7 @@ then_later call next f g k w = ap (λ (c : Called). and_then c next) (f k w) ∙
 
 -- what is told of such a step made from none, and reported with k more
 module _ (script st me : List ℕ) (state : State) (call : World → Called) (b : Answered) (x y : List ℕ) (k : ℕ) (counting : Counting call) where
-  pub after_is : told b x y ≡ reported (call (world_of state st me)) → record { answer = said b.answer; calls = k + b.calls; held = b.state.held; out = b.state.out; used = b.state.used; storage = x; medium = y } ≡ reported (call (world_after state st me k))
+  pub after_is : told b x y ≡ reported (call (world_of state st me)) → record { answer = b.answer; calls = k + b.calls; held = b.state.held; out = b.state.out; used = b.state.used; storage = x; medium = y } ≡ reported (call (world_after state st me k))
   unfolding Counting
   after_is e =
       let c = call (world_of state st me) in

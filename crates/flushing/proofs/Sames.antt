@@ -6,38 +6,52 @@ use mathlib.Core.Bool.{Bool}
 use mathlib.Core.List.{List}
 use Prim.Native.Nat.{ℕ, ◌-◌}
 use lib.ListN.{length, drop}
+use Rattle.std.specs.Prelude.{Result}
 use Rattle.laws.specs.Put.{put}
-use Rattle.card.specs.declared.Answer.{Answer}
-use Rattle.card.specs.Answers.{said}
-use Rattle.card.proofs.Saids.{said_same}
+use Rattle.card.specs.declared.Failure.{Failure}
+use Rattle.card.specs.declared.limits.Numbers.{Numbers}
+use Rattle.card.specs.Answers.{Answer, Said, said, said_done}
+use Rattle.card.proofs.Saids.{done_same}
 use Rattle.card.proofs.Sames.{one}
-use Rattle.flushing.specs.declared.State.{State}
-use Rattle.flushing.specs.declared.Answered.{Answered}
+use Rattle.flushing.specs.declared.BufWriter.{BufWriter}
 use Rattle.flushing.specs.declared.Sent.{Sent}
-use Rattle.flushing.specs.World.{Told, told, reported, world_of, is_ok}
+use Rattle.flushing.specs.World.{Told, Lent, tells, reported, is_ok, world, numbers}
 use Rattle.flushing.specs.Send.{send_from}
 use Rattle.flushing.specs.Flush.{flush_buf_call}
 
--- what a call tells tells its answer, its storage and its medium
-pub told_same : (r q : Answered) (x y u v : List ℕ) → told r x u ≡ told q y v → (r ≡ q) × ((x ≡ y) × (u ≡ v))
-told_same r q x y u v e =
-    let answers : r.answer ≡ q.answer = said_same r.answer q.answer (ap (λ (t : Told). t.answer) e) in
-    let calls : r.calls ≡ q.calls = ap (λ (t : Told). t.calls) e in
-    let held : r.state.held ≡ q.state.held = ap (λ (t : Told). t.held) e in
-    let out : r.state.out ≡ q.state.out = ap (λ (t : Told). t.out) e in
-    let used : r.state.used ≡ q.state.used = ap (λ (t : Told). t.used) e in (
-      λ i. record { answer = answers i; calls = calls i; state = record { held = held i; out = out i; used = used i } },
-      (ap (λ (t : Told). t.storage) e, ap (λ (t : Told). t.medium) e),
+-- what a call leaves of a writer: its state, its count of calls and every lent byte, in what was lent before
+pub record Left (v w x : BufWriter) : Type 0 where
+  pub state : w.state ≡ x.state
+  pub calls : w.calls ≡ x.calls
+  pub storage : w.storage.now ≡ x.storage.now
+  pub medium : w.medium.now ≡ x.medium.now
+  pub script : w.script ≡ x.script
+  pub same_storage : w.storage.ghost_name ≡ x.storage.ghost_name
+  pub same_medium : w.medium.ghost_name ≡ x.medium.ghost_name
+
+pub left_one : (p : Told) (a b : Said) (v w x : BufWriter) → Lent v w → Lent v x → tells a w ≡ p → tells b x ≡ p → (a ≡ b) × Left v w x
+left_one p a b v w x lw lx ew ex =
+    let e : tells a w ≡ tells b x = ew ∙ sym ex in
+    let held : w.state.held ≡ x.state.held = ap (λ (t : Told). t.held) e in
+    let out : w.state.out ≡ x.state.out = ap (λ (t : Told). t.out) e in
+    let used : w.state.used ≡ x.state.used = ap (λ (t : Told). t.used) e in (
+      ap (λ (t : Told). t.answer) e,
+      record {
+        state = λ i. record { held = held i; out = out i; used = used i };
+        calls = ap (λ (t : Told). t.calls) e;
+        storage = ap (λ (t : Told). t.storage) e;
+        medium = ap (λ (t : Told). t.medium) e;
+        script = lw.script ∙ sym lx.script;
+        same_storage = lw.storage ∙ sym lx.storage;
+        same_medium = lw.medium ∙ sym lx.medium;
+      },
     )
 
--- two calls that keep one promise
-pub two : (p : Told) (r q : Answered) (x y u v : List ℕ) → told r x u ≡ p → told q y v ≡ p → (r ≡ q) × ((x ≡ y) × (u ≡ v))
-two p r q x y u v e f = told_same r q x y u v (e ∙ sym f)
-
--- the calls on a state, storage s and medium m: two answers r and q, with what they leave of both
-module _ (script s m : List ℕ) (st : State) (r q : Answered) (x y u v : List ℕ) where
-  pub flush_buf_one : told r x u ≡ reported (flush_buf_call script (world_of st s m)) → told q y v ≡ reported (flush_buf_call script (world_of st s m)) → (r ≡ q) × ((x ≡ y) × (u ≡ v))
-  flush_buf_one = two (reported (flush_buf_call script (world_of st s m))) r q x y u v
+-- the flush of a writer v: two answers a and b, that leave it w and x
+pub flush_buf_one : (v w x : BufWriter) (a b : Result Unit Failure) → Lent v w → Lent v x → tells (said_done a) w ≡ reported (flush_buf_call v.script.now (world v)) → tells (said_done b) x ≡ reported (flush_buf_call v.script.now (world v)) → (a ≡ b) × Left v w x
+flush_buf_one v w x a b lw lx ew ex =
+    let both = left_one (reported (flush_buf_call v.script.now (world v))) (said_done a) (said_done b) v w x lw lx ew ex in
+    (done_same a b both.0, both.1)
 
 -- a run of device writes: the result, and then the medium
 pub send_all_one : (script source m : List ℕ) (used out : ℕ) (r q : Sent) (x y : List ℕ) → (r ≡ send_from (drop used script) (length source) (length m - out) 0 used 0) × (x ≡ put m out source r.sent) → (q ≡ send_from (drop used script) (length source) (length m - out) 0 used 0) × (y ≡ put m out source q.sent) → (r ≡ q) × (x ≡ y)
@@ -45,5 +59,9 @@ send_all_one script source m used out r q x y e f =
     let same : r ≡ q = e.0 ∙ sym f.0 in
     (same, e.1 ∙ ap (λ (g : Sent). put m out source g.sent) same ∙ sym f.1)
 
+pub numbers_one : (w : BufWriter) (r q : Numbers) → r ≡ numbers w → q ≡ numbers w → r ≡ q
+numbers_one w = one (numbers w)
+
+-- whether an answer is an ok
 pub succeeded_one : (a : Answer) (r q : Bool) → r ≡ is_ok (said a) → q ≡ is_ok (said a) → r ≡ q
 succeeded_one a = one (is_ok (said a))

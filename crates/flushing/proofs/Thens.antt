@@ -6,9 +6,9 @@ use mathlib.Core.List.{List}
 use Prim.Native.Nat.{ℕ, ◌+◌}
 use native.Mathlib.Nat.{add-zero}
 use native.Mathlib.Omega.{arith}
-use Rattle.card.specs.Answers.{Said, said}
+use Rattle.card.specs.Answers.{Said}
 use Rattle.flushing.specs.declared.State.{State}
-use Rattle.flushing.specs.declared.Answered.{Answered}
+use Rattle.flushing.specs.World.{Answered}
 use Rattle.flushing.specs.World.{World, Called, Told, world_after, told, reported, is_ok, and_then}
 
 pub then_ok : (c : Called) (next : World → Called) → is_ok c.answer ≡ true → and_then c next ≡ next c.world
@@ -35,7 +35,7 @@ then_assoc c f g = by (is_ok c.answer) refl
     by false e = ap (λ (d : Called). and_then d g) (then_failed c f e) ∙ then_failed c g e ∙ sym (then_failed c (λ v. and_then (f v) g) e)
 
 -- a call that was told, as the definition has it
-pub told_called : (c : Called) (r : Answered) (x y : List ℕ) → told r x y ≡ reported c → c.world.flushes ≡ 0 → c ≡ record { answer = said r.answer; world = world_after r.state x y r.calls }
+pub told_called : (c : Called) (r : Answered) (x y : List ℕ) → told r x y ≡ reported c → c.world.flushes ≡ 0 → c ≡ record { answer = r.answer; world = world_after r.state x y r.calls }
 told_called c r x y e z =
     let calls : c.world.writes ≡ r.calls = counted c.world.writes c.world.flushes r.calls (ap (λ (t : Told). t.calls) e) z in
     λ i.

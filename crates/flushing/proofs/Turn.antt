@@ -9,14 +9,14 @@ use lib.Seq.{drop-drop}
 use Rattle.laws.specs.Put.{put}
 use Rattle.laws.proofs.Puts.{put_none, put-put, put_zero, length-put}
 use Rattle.laws.proofs.Parts.{rest}
-use Rattle.card.specs.declared.Reply.{Reply}
-use Rattle.card.specs.declared.Reply.TheVariants.{Accept, Interrupted, Error}
 use Rattle.card.specs.declared.Exchange.{Exchange}
-use Rattle.card.specs.Device.{next, takes, at_most, moves, exchange}
+use Rattle.card.specs.Device.{next, takes, at_most, moves, exchange, Reply}
 use Rattle.card.proofs.Replies.{exchange_most, takes_accept, takes_interrupted, takes_most, reply_of_exchange, used_of_exchange}
-use Rattle.flushing.specs.declared.Outcome.TheVariants.{Done, Zero, Failed}
 use Rattle.flushing.specs.Send.{send_from, sent_by}
 use Rattle.flushing.proofs.Sends.{send_done, send_accept, send_zero, send_interrupted, send_failed}
+use Rattle.std.specs.Prelude.{Ok, Err}
+use Rattle.card.specs.declared.DeviceError.TheVariants.{Interrupted, Error}
+use Rattle.flushing.specs.declared.Stop.TheVariants.{Zero, Failed}
 
 -- what is so at the loop's head: the run from the start is the run from here
 pub record Inv (source script : List ℕ) (used : ℕ) (medium₀ : List ℕ) (out : ℕ) (medium : List ℕ) (sent at made : ℕ) : Type 0 where
@@ -48,7 +48,7 @@ module _ (source script : List ℕ) (used : ℕ) (medium₀ : List ℕ) (out : �
       }
 
   module _ (medium : List ℕ) (sent at made : ℕ) (inv : Inv source script used medium₀ out medium sent at made) where
-    pub ends_done : length source ≤ sent → (sent_by Done sent at made ≡ send_from (drop used script) (length source) (length medium₀ - out) 0 used 0) × (medium ≡ put medium₀ out source sent)
+    pub ends_done : length source ≤ sent → (sent_by (Ok tt) sent at made ≡ send_from (drop used script) (length source) (length medium₀ - out) 0 used 0) × (medium ≡ put medium₀ out source sent)
     ends_done h = (sym (inv.same ∙ send_done (drop at script) (length source - sent) (length medium₀ - out - sent) sent at made (omega arith)), inv.bytes)
 
     -- the device write of a turn
@@ -78,7 +78,7 @@ module _ (source script : List ℕ) (used : ℕ) (medium₀ : List ℕ) (out : �
           (used_is ∙ ap (λ (j : ℕ). at + j) one, omega arith)
 
       -- a turn whose reply accepts some bytes
-      module _ (n : ℕ) (pn : e.reply ≡ Accept n) where
+      module _ (n : ℕ) (pn : e.reply ≡ Ok n) where
         on_accept : (e.used ≡ at + 1) × (at < length script)
         on_accept = on (takes_accept (drop at script) _ n (reply_is ∙ pn))
 
@@ -127,17 +127,17 @@ module _ (source script : List ℕ) (used : ℕ) (medium₀ : List ℕ) (out : �
       unmoved : moves e.reply ≡ 0 → x ≡ medium
       unmoved z = px ∙ sym (put_zero medium (out + sent) _ _ z)
 
-      pub ends_zero : (n : ℕ) → e.reply ≡ Accept n → n ≡ 0 → (sent_by Zero sent e.used (made + 1) ≡ send_from (drop used script) (length source) (length medium₀ - out) 0 used 0) × (x ≡ put medium₀ out source sent)
+      pub ends_zero : (n : ℕ) → e.reply ≡ Ok n → n ≡ 0 → (sent_by (Err Zero) sent e.used (made + 1) ≡ send_from (drop used script) (length source) (length medium₀ - out) 0 used 0) × (x ≡ put medium₀ out source sent)
       ends_zero n pn z =
-          let none : e.reply ≡ Accept 0 = pn ∙ ap Accept z in (
+          let none : e.reply ≡ Ok 0 = pn ∙ ap Ok z in (
             sym
                 (inv.same
                 ∙ send_zero (drop at script) (length source - sent) (length medium₀ - out - sent) sent at made (reply_is ∙ none) (omega arith)
-                ∙ ap (λ (k : ℕ). sent_by Zero sent k (made + 1)) (sym used_is)),
+                ∙ ap (λ (k : ℕ). sent_by (Err Zero) sent k (made + 1)) (sym used_is)),
             unmoved (ap moves none) ∙ inv.bytes,
           )
 
-      pub interrupted : e.reply ≡ Interrupted → Inv source script used medium₀ out x sent e.used (made + 1)
+      pub interrupted : e.reply ≡ (Err Interrupted) → Inv source script used medium₀ out x sent e.used (made + 1)
       interrupted q =
           let one = on (takes_interrupted (drop at script) _ (reply_is ∙ q)) in
           let x-same = unmoved (ap moves q) in
@@ -155,16 +155,16 @@ module _ (source script : List ℕ) (used : ℕ) (medium₀ : List ℕ) (out : �
             few = omega (arith, one.1, inv.count);
           }
 
-      pub interrupted_less : e.reply ≡ Interrupted → length script - e.used < length script - at
+      pub interrupted_less : e.reply ≡ (Err Interrupted) → length script - e.used < length script - at
       interrupted_less q =
           let one = on (takes_interrupted (drop at script) _ (reply_is ∙ q)) in
           omega (arith, one.0, one.1)
 
-      pub ends_failed : (code : ℕ) → e.reply ≡ Error code → (sent_by (Failed code) sent e.used (made + 1) ≡ send_from (drop used script) (length source) (length medium₀ - out) 0 used 0) × (x ≡ put medium₀ out source sent)
+      pub ends_failed : (code : ℕ) → e.reply ≡ Err (Error code) → (sent_by (Err (Failed code)) sent e.used (made + 1) ≡ send_from (drop used script) (length source) (length medium₀ - out) 0 used 0) × (x ≡ put medium₀ out source sent)
       ends_failed code q = (
         sym
             (inv.same
             ∙ send_failed (drop at script) (length source - sent) (length medium₀ - out - sent) sent at made code (reply_is ∙ q) (omega arith)
-            ∙ ap (λ (k : ℕ). sent_by (Failed code) sent k (made + 1)) (sym used_is)),
+            ∙ ap (λ (k : ℕ). sent_by (Err (Failed code)) sent k (made + 1)) (sym used_is)),
         unmoved (ap moves q) ∙ inv.bytes,
       )

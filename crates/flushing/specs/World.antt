@@ -3,10 +3,11 @@
 use Rattle.std.specs.Prelude.{◌≡◌, ℕ, ◌+◌, ◌-◌, ◌≤◌, Bool, false, List, [], ◌∷◌, length, drop, get_or, eqb}
 use Rattle.laws.specs.Pick.{pick}
 use Rattle.laws.specs.Put.{put}
-use Rattle.card.specs.Answers.{Said, said, done, refused}
+use Rattle.card.specs.Answers.{Said, done, refused}
 use Rattle.card.specs.Limits.{refusal_of}
 use Rattle.flushing.specs.declared.State.{State}
-use Rattle.flushing.specs.declared.Answered.{Answered}
+use Rattle.flushing.specs.declared.BufWriter.{BufWriter}
+use Rattle.card.specs.declared.limits.Numbers.{Numbers}
 
 -- The lent storage and medium, the state's numbers, and the device calls that the call has made so far
 pub record World : Type 0 where
@@ -152,6 +153,12 @@ pub record Fit (script : List ℕ) (w : World) : Type 0 where
 pub record Sound (script : List ℕ) (w : World) : Type 0 where
   pub none : refusal_of (capacity w) (length script) (length w.medium) 0 w.held w.out w.used 0 ≡ 0
 
+-- what a call answers, how many device calls it made, and the state after it
+pub record Answered : Type 0 where
+  pub answer : Said
+  pub calls : ℕ
+  pub state : State
+
 -- what a call tells: its answer, its count of device calls, the new state and every lent byte
 pub record Told : Type 0 where
   pub answer : Said
@@ -165,7 +172,7 @@ pub record Told : Type 0 where
 abbrev pub told : Answered → List ℕ → List ℕ → Told
 told r storage medium =
     record {
-      answer = said r.answer;
+      answer = r.answer;
       calls = r.calls;
       held = r.state.held;
       out = r.state.out;
@@ -185,4 +192,39 @@ reported c =
       used = c.world.used;
       storage = c.world.storage;
       medium = c.world.medium;
+    }
+
+-- ---- a writer, as it is lent to a call
+
+-- the world that it is, when no device call is made yet, and when those are that it counts
+abbrev pub world : BufWriter → World
+world w = world_of w.state w.storage.now w.medium.now
+
+abbrev pub counting : BufWriter → World
+counting w = world_after w.state w.storage.now w.medium.now w.calls
+
+-- what a call tells that answers so and leaves the writer so
+abbrev pub left : Said → BufWriter → Answered
+left answer w = record { answer = answer; calls = w.calls; state = w.state }
+
+abbrev pub tells : Said → BufWriter → Told
+tells answer w = told (left answer w) w.storage.now w.medium.now
+
+-- what is lent stays lent: the same storage and medium, the same script
+pub record Lent (v w : BufWriter) : Type 0 where
+  pub storage : w.storage.ghost_name ≡ v.storage.ghost_name
+  pub medium : w.medium.ghost_name ≡ v.medium.ghost_name
+  pub script : w.script ≡ v.script
+
+-- the numbers that a call stands on
+abbrev pub numbers : BufWriter → Numbers
+numbers w =
+    record {
+      capacity = length w.storage.now;
+      script = length w.script.now;
+      device = length w.medium.now;
+      pos = 0;
+      filled = w.state.held;
+      moved = w.state.out;
+      used = w.state.used;
     }

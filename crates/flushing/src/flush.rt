@@ -1,72 +1,40 @@
 // The flush of the buffer: std's `BufWriter::flush_buf`.
 ghost use Rattle.std.specs.Prelude.{◌≡◌};
-ghost use Rattle.card.specs.Answers.{said};
-ghost use Rattle.flushing.specs.World.{world_of, told, reported, is_ok};
-ghost use Rattle.flushing.specs.Send.{flush_said};
+ghost use Rattle.card.specs.Answers.{said, said_done};
+ghost use Rattle.flushing.specs.World.{Lent, world, tells, reported, is_ok};
 ghost use Rattle.flushing.specs.Flush.{flush_buf_call};
 
-use crate::{Answered, Outcome, State, send};
-use card::{Answer, bytes, limits};
+use crate::{BufWriter, State, send};
+use card::{Answer, Failure, bytes};
 
-// Whether an answer is an ok.
+// Whether an answer is an ok: std's `is_ok`, which stands by this name because it is public.
 pub fn succeeded(answer: Answer) -> bool
     ensures { result ≡ is_ok (said answer) }
 {
-    match answer {
-        Answer::Ok(_) => true,
-        Answer::Done => true,
-        Answer::Interrupted => false,
-        Answer::Zero => false,
-        Answer::Whole => false,
-        Answer::Error(_) => false,
-        Answer::Refused(_) => false,
-    }
+    answer.is_ok()
 }
 
-fn flush_answer(outcome: Outcome) -> Answer
-    ensures { said result ≡ flush_said outcome }
-{
-    match outcome {
-        Outcome::Done => Answer::Done,
-        Outcome::Zero => Answer::Zero,
-        Outcome::Failed(code) => Answer::Error(code),
-    }
-}
-
-// However the run of device writes is left, what was taken is drained once.
-pub fn flush_buf(state: State, storage: &mut [u8], script: &[u32], medium: &mut [u8]) -> Answered
-    ensures { told result storage.new medium.new ≡ reported (flush_buf_call script.now (world_of state storage.old medium.old)) }
-{
-    let held = state.held;
-    let out = state.out;
-    let number = limits::refusal(
-        storage.len(),
-        script.len(),
-        medium.len(),
-        0,
-        held,
-        out,
-        state.used,
-        0,
-    );
-    if number != 0 {
-        return Answered {
-            answer: Answer::Refused(number),
-            calls: 0,
-            state,
+impl BufWriter<'_, '_> {
+    // However the run of device writes is left, what was taken is drained once.
+    pub fn flush_buf(&mut self) -> Result<(), Failure>
+        ensures lent { Lent self.old self.new }
+        ensures told { tells (said_done result) self.new ≡ reported (flush_buf_call self.old.script.now (world self.old)) }
+    {
+        self.calls = 0;
+        self.numbers().check()?;
+        let State { held, out, used } = self.state;
+        // Each field by itself, since two are lent at once.
+        let script = self.script;
+        let storage = &mut *self.storage;
+        let medium = &mut *self.medium;
+        let run = send::send_all(&storage[..held], script, used, medium, out);
+        bytes::shift(storage, run.sent, held);
+        self.calls = run.writes;
+        self.state = State {
+            held: held - run.sent,
+            out: out + run.sent,
+            used: run.used,
         };
-    }
-    let f = send::send_all(&storage[..held], script, state.used, medium, out);
-    let sent = f.sent;
-    let outcome = f.outcome;
-    bytes::shift(storage, sent, held);
-    Answered {
-        answer: flush_answer(outcome),
-        calls: f.writes,
-        state: State {
-            held: held - sent,
-            out: out + sent,
-            used: f.used,
-        },
+        Ok(run.outcome?)
     }
 }

@@ -3,8 +3,8 @@ ghost use Rattle.std.specs.Prelude.{◌≡◌, ◌-◌, length, drop};
 ghost use Rattle.laws.specs.Put.{put};
 ghost use Rattle.flushing.specs.Send.{send_from};
 
-use crate::{Outcome, Sent};
-use card::{Reply, device};
+use crate::{Sent, Stop};
+use card::{DeviceError, device};
 
 // Offers the unwritten rest of source to the device until none is left, or until it takes nothing
 // or fails. It refuses nothing: past the script's end a device write fails, and past the medium's
@@ -17,23 +17,24 @@ pub fn send_all(source: &[u8], script: &[u32], used: usize, medium: &mut [u8], o
     let mut made = 0;
     let outcome = loop {
         if source.len() <= sent {
-            break Outcome::Done;
+            break Ok(());
         }
         let e = device::write(script, at, &source[sent..], medium, out + sent);
         at = e.used;
         made += 1;
-        let reply = e.reply;
-        match reply {
-            Reply::Accept(n) => {
+        // One match in another: over both at once (`Ok(0)`, `Err(DeviceError::Interrupted)`) no proof
+        // closed.
+        match e.reply {
+            Ok(n) => {
                 if n == 0 {
-                    break Outcome::Zero;
+                    break Err(Stop::Zero);
                 }
                 sent += n;
             }
-            Reply::Interrupted => {}
-            Reply::Error(code) => {
-                break Outcome::Failed(code);
-            }
+            Err(why) => match why {
+                DeviceError::Interrupted => {}
+                DeviceError::Error(code) => break Err(Stop::Failed(code)),
+            },
         }
     };
     Sent {

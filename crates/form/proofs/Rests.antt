@@ -11,22 +11,22 @@ use lib.ListN.{length, take, drop, length-take, length-drop}
 use borrow.Author.Tests.{eqb-false, ltb-true, ltb-false}
 use Rattle.laws.proofs.Picks.{pick_holds}
 use Rattle.card.specs.Limits.{bytes_most, capacity_most, script_most}
-use Rattle.numbers.specs.declared.Number.TheVariants.{Value}
-use Rattle.numbers.specs.Number.{number_most}
+use Rattle.std.specs.Prelude.{Ok, Err}
+use Rattle.numbers.specs.declared.Fault.{Fault}
+use Rattle.numbers.specs.Number.{found, fault_at, number_most}
+use Rattle.numbers.proofs.Back.{same_place}
 use Rattle.numbers.proofs.Most.{most_value, most_places, after_holds}
 use Rattle.form.specs.declared.Call.{Call}
 use Rattle.form.specs.declared.Call.TheVariants.{Write, WriteAll, Flush, Read, Peek, Consume, Seek, Fill}
-use Rattle.form.specs.declared.CallRead.{CallRead}
-use Rattle.form.specs.declared.CallRead.TheVariants.{Found, Fault as NoCall}
 use Rattle.form.specs.declared.Header.{Header}
-use Rattle.form.specs.declared.Checked.TheVariants.{Session, Traced, Fault}
+use Rattle.form.specs.declared.Checked.TheVariants.{Session, Traced}
 use Rattle.form.specs.Lists.{Listed, listed, stopped, before, after_all}
 use Rattle.form.specs.Replies.{word_most, replies_from, replies_in}
-use Rattle.form.specs.Calls.{Asked, write, write_all, flush, read, peek, consume, seek_relative, fill, asked, call_at, after_call, calls_from}
+use Rattle.form.specs.Calls.{Asked, write, write_all, flush, read, peek, consume, seek_relative, fill, asked, call_at, calls_from}
 use Rattle.form.specs.Session.{session_most, calls_most, Parsed, fault, traced, session, stock_of, calls_of, count_at, stock_at, script_at, replies_at, capacity_at, session_of, checked}
 use Rattle.form.proofs.Places.{fault_in}
 use Rattle.form.proofs.Within.{Fits, CallWithin, within, call_fault_in, stock_part, stock_fault_in}
-use Rattle.form.proofs.Walks.{Next, next_of, no_list, call_next, call_fault, call_none}
+use Rattle.form.proofs.Walks.{Next, next_of, call_next, call_fault, call_none}
 
 -- a check's answer, back to what the definition says
 pub record Held (p : Parsed) (header : Header) : Type 0 where
@@ -35,36 +35,24 @@ pub record Held (p : Parsed) (header : Header) : Type 0 where
   pub calls : List Asked
   pub is : p ≡ session header replies stock calls
 
-pub held : (p : Parsed) (header : Header) → Session header ≡ checked p → Held p header
-held (fault place) header e =
-    let z : ◌≡◌ {A = ℕ} 0 1 = cc in
-    absurd (omega arith)
-held (traced start trace) header e =
-    let z : ◌≡◌ {A = ℕ} 0 1 = cc in
-    absurd (omega arith)
+pub held : (p : Parsed) (header : Header) → Ok (Session header) ≡ checked p → Held p header
+held (fault place) header e = absurd (cc)
+held (traced start trace) header e = absurd (cc)
 held (session h replies stock calls) header e =
     let q : h ≡ header = cc in
     record { replies = replies; stock = stock; calls = calls; is = ap (λ (x : Header). session x replies stock calls) q }
 
-pub refused : (p : Parsed) (place : ℕ) → Fault place ≡ checked p → p ≡ fault place
+pub refused : (p : Parsed) (place : ℕ) → fault_at place ≡ checked p → p ≡ fault place
 refused (fault q) place e =
-    let s : q ≡ place = cc in
+    let s : q ≡ place = sym (same_place place q e) in
     ap (λ (x : ℕ). fault x) s
-refused (traced start trace) place e =
-    let z : ◌≡◌ {A = ℕ} 0 1 = cc in
-    absurd (omega arith)
-refused (session h replies stock calls) place e =
-    let z : ◌≡◌ {A = ℕ} 0 1 = cc in
-    absurd (omega arith)
+refused (traced start trace) place e = absurd (cc)
+refused (session h replies stock calls) place e = absurd (cc)
 
 -- what holds at a fault, and of any list that is read, holds of what comes after
 pub all_holds {ℓ} : {A : Type 0} {B : Type ℓ} (P : B → Type 0) (l : Listed A) (bad : ℕ → B) (good : List A → ℕ → B) → ((place : ℕ) → l ≡ stopped place → P (bad place)) → ((all : List A) (next : ℕ) → l ≡ listed all next → P (good all next)) → P (after_all l bad good)
 all_holds P (listed all next) bad good f g = g all next refl
 all_holds P (stopped place) bad good f g = f place refl
-
-pub call_holds : {B : Type 0} (P : B → Type 0) (r : CallRead) (bad : ℕ → B) (good : Call → ℕ → B) → ((place : ℕ) → r ≡ NoCall place → P (bad place)) → ((call : Call) (next : ℕ) → r ≡ Found call next → P (good call next)) → P (after_call r bad good)
-call_holds P (Found call next) bad good f g = g call next refl
-call_holds P (NoCall place) bad good f g = f place refl
 
 -- The replies that are read: so many, each below 2^32, in the session; and they are those that can be read
 abbrev pub AllWords : List ℕ → Type 0
@@ -89,7 +77,7 @@ replies_good t (suc left) at =
     after_holds (GoodReplies t (suc left) at) (number_most t at word_most) stopped _ (λ p e h. fault_in t at word_most p e h)
     (λ reply next e. more reply next e (replies_from t left next) (replies_good t left next))
   where
-    more : (reply next : ℕ) → number_most t at word_most ≡ Value reply next → (l : Listed ℕ) → GoodReplies t left next l → GoodReplies t (suc left) at (before reply l)
+    more : (reply next : ℕ) → number_most t at word_most ≡ found reply next → (l : Listed ℕ) → GoodReplies t left next l → GoodReplies t (suc left) at (before reply l)
     more reply next e (listed replies end) g =
         let w = most_places t at word_most reply next e in
         record {
@@ -150,7 +138,7 @@ calls_good : (t : List ℕ) (kind left at : ℕ) → GoodCalls t kind left at (c
 unfolding calls_from
 calls_good t kind zero at = record { are = refl; fit = tt; later = omega arith; ends = λ h. h }
 calls_good t kind (suc left) at =
-    call_holds (GoodCalls t kind (suc left) at) (call_at t kind at) stopped _ (λ p e h. call_fault_in t kind at p e h)
+    after_holds (GoodCalls t kind (suc left) at) (call_at t kind at) stopped _ (λ p e h. call_fault_in t kind at p e h)
     (λ call next e. more call next (within t kind at call next e) (calls_from t kind left next) (calls_good t kind left next))
   where
     more : (call : Call) (next : ℕ) → CallWithin t kind at call next → (l : Listed Asked) → GoodCalls t kind left next l → GoodCalls t kind (suc left) at (before (asked t call) l)
@@ -211,7 +199,7 @@ module _ (t : List ℕ) (short : length t ≤ session_most) (kind : ℕ) (kind_m
   refuse place h = record { place_in = h; place_most = omega arith }
 
   module _ (capacity count script at : ℕ) (replies : List ℕ) (capacity_within : capacity ≤ capacity_most) (count_most : count ≤ script_most) (script_in : script ≤ length t) (r : Replies t count script replies at) where
-    calls_of_good : (n stock calls first : ℕ) → stock_of t kind at ≡ Value n stock → calls ≤ calls_most → first ≤ length t → GoodSession t (calls_of t (record { kind = kind; capacity = capacity; replies = count; script = script; stock = stock; length = n; count = calls; first = first }) replies)
+    calls_of_good : (n stock calls first : ℕ) → stock_of t kind at ≡ found n stock → calls ≤ calls_most → first ≤ length t → GoodSession t (calls_of t (record { kind = kind; capacity = capacity; replies = count; script = script; stock = stock; length = n; count = calls; first = first }) replies)
     unfolding calls_of
     calls_of_good n stock calls first e k h =
         all_holds (GoodSession t) (calls_from t kind calls first) fault _ (λ p q. refuse p (calls_fault_in t kind calls first p q h))
@@ -282,16 +270,12 @@ pub record HeldTrace (p : Parsed) (start : ℕ) : Type 0 where
   pub trace : List ℕ
   pub is : p ≡ traced start trace
 
-pub held_trace : (p : Parsed) (start : ℕ) → Traced start ≡ checked p → HeldTrace p start
-held_trace (fault place) start e =
-    let z : ◌≡◌ {A = ℕ} 0 1 = cc in
-    absurd (omega arith)
+pub held_trace : (p : Parsed) (start : ℕ) → Ok (Traced start) ≡ checked p → HeldTrace p start
+held_trace (fault place) start e = absurd (cc)
 held_trace (traced s trace) start e =
     let q : s ≡ start = cc in
     record { trace = trace; is = ap (λ (x : ℕ). traced x trace) q }
-held_trace (session h replies stock calls) start e =
-    let z : ◌≡◌ {A = ℕ} 0 1 = cc in
-    absurd (omega arith)
+held_trace (session h replies stock calls) start e = absurd (cc)
 
 pub whole_trace : (t : List ℕ) (start : ℕ) (trace : List ℕ) → session_of t ≡ traced start trace → Trace t start trace
 whole_trace t start trace e = rw e at (session_good t)
@@ -299,11 +283,11 @@ whole_trace t start trace e = rw e at (session_good t)
 -- A walk over the calls
 module _ (t : List ℕ) (kind left at : ℕ) (calls : List Asked) (end : ℕ) (e : calls_from t kind left at ≡ listed calls end) where
   -- While calls are left, the next one is read without a fault, it stands in front, and the rest is read from its next place
-  pub next : (call : Call) (place : ℕ) → call_at t kind at ≡ Found call place → 0 < left → Next (calls_from t kind) calls end left place (asked t call)
+  pub next : (call : Call) (place : ℕ) → call_at t kind at ≡ found call place → 0 < left → Next (calls_from t kind) calls end left place (asked t call)
   next call place q h = next_of (calls_from t kind) calls end left at place (asked t call) e (call_next t kind left at call place q h)
 
-  pub no_fault : (place : ℕ) → call_at t kind at ≡ NoCall place → 0 < left → ⊥
-  no_fault place q h = no_list place calls end (sym (call_fault t kind left at place q h) ∙ e)
+  pub no_fault : (f : Fault) → call_at t kind at ≡ Err f → 0 < left → ⊥
+  no_fault f q h = let stops = call_fault t kind left at f q h in cc
 
   -- at the end there are no calls left, and the place is the end
   pub last : left ≤ 0 → (calls ≡ []) × (at ≡ end)

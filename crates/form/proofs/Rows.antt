@@ -4,7 +4,7 @@ use mathlib.Core.Path.{◌≡◌, refl}
 use mathlib.Core.Bool.{true, false}
 use mathlib.Core.List.{List, [], ◌∷◌}
 use Prim.Native.Nat.{ℕ}
-use Rattle.numbers.specs.Number.{ended, groups_from, number_of, number, within, number_most}
+use Rattle.numbers.specs.Number.{ended, groups_from, number_of, number, within, number_most, length_most}
 use Rattle.form.specs.Replies.{replies_from}
 use Rattle.form.specs.Calls.{write, write_all, flush, read, peek, consume, seek_relative, fill, length_at, write_at, write_all_at, read_at, peek_at, consume_at, size_at, seek_at, writer_call, reader_call, call_at, calls_from}
 use Rattle.form.specs.Session.{Parsed, fault, traced, session, stock_of, calls_of, count_at, stock_at, script_at, replies_at, capacity_at, session_of}
@@ -64,5 +64,5 @@ Hold [] = Unit
 Hold (row ∷ rest) = (session_of row.bytes ≡ row.says) × Hold rest
 
 pub rows_hold : Hold rows
-unfolding session_of capacity_at replies_at script_at stock_at count_at calls_of stock_of calls_from call_at reader_call writer_call seek_at size_at consume_at peek_at read_at write_all_at write_at length_at replies_from number_most within number number_of groups_from ended
+unfolding session_of capacity_at replies_at script_at stock_at count_at calls_of stock_of calls_from call_at reader_call writer_call seek_at size_at consume_at peek_at read_at write_all_at write_at length_at replies_from length_most number_most within number number_of groups_from ended
 rows_hold = (refl, (refl, (refl, (refl, (refl, (refl, (refl, (refl, (refl, (refl, (refl, (refl, (refl, (refl, (refl, (refl, (refl, (refl, (refl, (refl, (refl, tt)))))))))))))))))))))

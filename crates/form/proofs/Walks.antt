@@ -1,48 +1,19 @@
--- A walk over the replies or the calls of a session, one by one: the loop that passes them, and what a later walk goes by.
+-- A walk over the calls of a session, or over the replies that can be read, one by one.
 -- Assumes nothing.
-use mathlib.Core.Path.{◌≡◌, refl, sym, ap, ◌∙◌}
+use mathlib.Core.Path.{◌≡◌, refl, sym, ◌∙◌}
 use mathlib.Core.List.{List, [], ◌∷◌}
 use Prim.Native.Nat.{ℕ, zero, suc, ◌-◌, ◌≤◌, ◌<◌}
 use native.Mathlib.Omega.{arith}
-use Rattle.numbers.specs.declared.Number.TheVariants.{Value, Fault as NoNumber}
-use Rattle.numbers.specs.Number.{number_most}
+use Rattle.std.specs.Prelude.{Err}
+use Rattle.numbers.specs.declared.Fault.{Fault}
+use Rattle.numbers.specs.Number.{found, number_most}
 use Rattle.form.specs.declared.Call.{Call}
-use Rattle.form.specs.declared.CallRead.TheVariants.{Found, Fault as NoCall}
-use Rattle.form.specs.declared.End.TheVariants.{At, Fault}
-use Rattle.form.specs.Lists.{Listed, listed, stopped, before, skipped}
-use Rattle.form.specs.Replies.{word_most, replies_from, replies_in}
+use Rattle.form.specs.Lists.{Listed, listed, stopped, before}
+use Rattle.form.specs.Replies.{word_most, replies_in}
 use Rattle.form.specs.Calls.{asked, call_at, calls_from}
-
--- one more in front does not move the end
-skipped_before : {A : Type 0} (x : A) (l : Listed A) → skipped (before x l) ≡ skipped l
-skipped_before x (listed all next) = refl
-skipped_before x (stopped place) = refl
-
--- a fault is no list
-pub no_list : {A : Type 0} (place : ℕ) (all : List A) (end : ℕ) → stopped place ≡ listed all end → ⊥
-no_list place all end e =
-    let z : ◌≡◌ {A = ℕ} 0 1 = cc in
-    omega arith
 
 -- Of things that are read one after the other, so many from a place on: `from left at`
 module _ {A : Type 0} (from : ℕ → ℕ → Listed A) where
-  -- At the head of a turn, the whole ends where the rest ends
-  pub record Turn (count first left at : ℕ) : Type 0 where
-    pub same : skipped (from count first) ≡ skipped (from left at)
-
-  pub start : (count first : ℕ) → Turn count first count first
-  start count first = record { same = refl }
-
-  module _ (count first left at : ℕ) (w : Turn count first left at) where
-    pub again : (x : A) (next : ℕ) → from left at ≡ before x (from (left - 1) next) → Turn count first (left - 1) next
-    again x next e = record { same = w.same ∙ ap skipped e ∙ skipped_before x (from (left - 1) next) }
-
-    pub stop : (place : ℕ) → from left at ≡ stopped place → Fault place ≡ skipped (from count first)
-    stop place e = sym (w.same ∙ ap skipped e)
-
-    pub end : from left at ≡ listed [] at → At at ≡ skipped (from count first)
-    end e = sym (w.same ∙ ap skipped e)
-
   -- A later walk: where the rest is read without a fault, what is read next stands in front of it
   pub record Next (all : List A) (end left next : ℕ) (x : A) : Type 0 where
     pub later : List A
@@ -56,39 +27,21 @@ module _ {A : Type 0} (from : ℕ → ℕ → Listed A) where
       by (listed later last) r s =
           let h : last ≡ end = cc in
           record { later = later; front = cc; goes = cc }
-      by (stopped place) r s = absurd (no_list place all end s)
+      by (stopped place) r s = absurd (cc)
 
 -- The definitions' steps as equations, for any count
 module _ (t : List ℕ) where
-  pub reply_next : (left at reply next : ℕ) → number_most t at word_most ≡ Value reply next → 0 < left → replies_from t left at ≡ before reply (replies_from t (left - 1) next)
-  unfolding replies_from
-  reply_next zero at reply next e h = absurd (omega arith)
-  reply_next (suc left) at reply next e h =
-      let same : suc left - 1 ≡ left = omega arith in
-      rw (e, same) refl
-
-  pub reply_fault : (left at place : ℕ) → number_most t at word_most ≡ NoNumber place → 0 < left → replies_from t left at ≡ stopped place
-  unfolding replies_from
-  reply_fault zero at place e h = absurd (omega arith)
-  reply_fault (suc left) at place e h = rw e refl
-
-  pub reply_none : (left at : ℕ) → left ≤ 0 → replies_from t left at ≡ listed [] at
-  unfolding replies_from
-  reply_none zero at h = refl
-  reply_none (suc left) at h = absurd (omega arith)
-
-  -- the same of the replies that can be read
-  pub in_next : (left at reply next : ℕ) → number_most t at word_most ≡ Value reply next → 0 < left → replies_in t left at ≡ reply ∷ replies_in t (left - 1) next
+  pub in_next : (left at reply next : ℕ) → number_most t at word_most ≡ found reply next → 0 < left → replies_in t left at ≡ reply ∷ replies_in t (left - 1) next
   unfolding replies_in
   in_next zero at reply next e h = absurd (omega arith)
   in_next (suc left) at reply next e h =
       let same : suc left - 1 ≡ left = omega arith in
       rw (e, same) refl
 
-  pub in_fault : (left at place : ℕ) → number_most t at word_most ≡ NoNumber place → replies_in t left at ≡ []
+  pub in_fault : (left at : ℕ) (f : Fault) → number_most t at word_most ≡ Err f → replies_in t left at ≡ []
   unfolding replies_in
-  in_fault zero at place e = refl
-  in_fault (suc left) at place e = rw e refl
+  in_fault zero at f e = refl
+  in_fault (suc left) at f e = rw e refl
 
   pub in_none : (left at : ℕ) → left ≤ 0 → replies_in t left at ≡ []
   unfolding replies_in
@@ -96,17 +49,17 @@ module _ (t : List ℕ) where
   in_none (suc left) at h = absurd (omega arith)
 
   module _ (kind : ℕ) where
-    pub call_next : (left at : ℕ) (call : Call) (next : ℕ) → call_at t kind at ≡ Found call next → 0 < left → calls_from t kind left at ≡ before (asked t call) (calls_from t kind (left - 1) next)
+    pub call_next : (left at : ℕ) (call : Call) (next : ℕ) → call_at t kind at ≡ found call next → 0 < left → calls_from t kind left at ≡ before (asked t call) (calls_from t kind (left - 1) next)
     unfolding calls_from
     call_next zero at call next e h = absurd (omega arith)
     call_next (suc left) at call next e h =
         let same : suc left - 1 ≡ left = omega arith in
         rw (e, same) refl
 
-    pub call_fault : (left at place : ℕ) → call_at t kind at ≡ NoCall place → 0 < left → calls_from t kind left at ≡ stopped place
+    pub call_fault : (left at : ℕ) (f : Fault) → call_at t kind at ≡ Err f → 0 < left → calls_from t kind left at ≡ stopped f.place
     unfolding calls_from
-    call_fault zero at place e h = absurd (omega arith)
-    call_fault (suc left) at place e h = rw e refl
+    call_fault zero at f e h = absurd (omega arith)
+    call_fault (suc left) at f e h = rw e refl
 
     pub call_none : (left at : ℕ) → left ≤ 0 → calls_from t kind left at ≡ listed [] at
     unfolding calls_from

@@ -1,60 +1,34 @@
 -- What is read keeps: lengths, sizes and places lie within their limits and in the session.
 -- Assumes nothing.
-use mathlib.Core.Path.{◌≡◌, ap, ◌∙◌}
-use mathlib.Core.Bool.{Bool, true, false}
+use mathlib.Core.Path.{◌≡◌, sym, ap, ◌∙◌}
+use mathlib.Core.Bool.{true}
 use mathlib.Core.List.{List}
-use Prim.Native.Nat.{ℕ, ◌+◌, ◌-◌, ◌≤◌, ◌<◌}
+use Prim.Native.Nat.{ℕ, ◌+◌, ◌≤◌, ◌<◌}
 use native.Mathlib.Omega.{arith}
-use lib.Dec.{eqb, ltb}
+use lib.Dec.{eqb}
 use lib.ListN.{length}
-use borrow.Author.Tests.{eqb-true, eqb-false, ltb-false}
+use borrow.Author.Tests.{eqb-true, eqb-false}
 use Rattle.laws.proofs.Picks.{pick_holds}
 use Rattle.card.specs.Limits.{bytes_most}
-use Rattle.numbers.specs.declared.Number.{Number}
-use Rattle.numbers.specs.declared.Number.TheVariants.{Value, Fault as NoNumber}
-use Rattle.numbers.specs.Number.{number_most}
-use Rattle.numbers.proofs.Back.{no_value}
-use Rattle.numbers.proofs.Most.{most_value, most_places, after_holds}
+use Rattle.std.specs.Prelude.{Ok, Err}
+use Rattle.numbers.specs.Number.{Found, found, fault_at, number_most}
+use Rattle.numbers.proofs.Back.{same_found}
+use Rattle.numbers.proofs.Most.{most_value, most_places, LengthWithin, length_within, after_holds}
 use Rattle.form.specs.declared.Call.{Call}
 use Rattle.form.specs.declared.Call.TheVariants.{Write, WriteAll, Flush, Read, Peek, Consume, Seek, Fill}
-use Rattle.form.specs.declared.CallRead.{CallRead}
-use Rattle.form.specs.declared.CallRead.TheVariants.{Found, Fault as NoCall}
 use Rattle.form.specs.Replies.{word_most}
 use Rattle.form.specs.Calls.{asked, call_number, length_at, write_at, write_all_at, read_at, peek_at, consume_at, size_at, seek_at, writer_call, reader_call, call_at}
 use Rattle.form.specs.Session.{stock_of}
-use Rattle.form.proofs.Places.{fault_in}
+use Rattle.form.proofs.Places.{fault_in, length_fault_in}
 
--- A length at place `at`, and its bytes
-pub record Part (t : List ℕ) (at n start : ℕ) : Type 0 where
-  pub later : at < start
-  pub ends : start + n ≤ length t
-  pub most : n ≤ bytes_most
-
-pub length_part : (t : List ℕ) (at n start : ℕ) → length_at t at ≡ Value n start → Part t at n start
+-- A length at a place, of at most 16,384, and its bytes
+pub length_part : (t : List ℕ) (at n start : ℕ) → length_at t at ≡ found n start → LengthWithin t at bytes_most n start
 unfolding length_at
-length_part t at n start =
-    after_holds (λ m. m ≡ Value n start → Part t at n start) (number_most t at bytes_most) NoNumber _ (λ p e q. absurd (no_value p n start q))
-    (λ k place e.
-    let w = most_places t at bytes_most k place e in
-    pick_holds (λ m. m ≡ Value n start → Part t at n start) (ltb (length t - place) k) _ _ (λ s q. absurd (no_value (length t) n start q))
-    (λ s q.
-    let a : k ≡ n = cc in
-    let b : place ≡ start = cc in
-    record { later = omega arith; ends = omega (arith, ltb-false (length t - place) k s); most = omega (arith, (most_value t at bytes_most k place e).1) }))
+length_part t at n start e = length_within t at bytes_most n start e
 
--- of a fault
-abbrev pub FaultIn : List ℕ → Number → Type 0
-FaultIn t (Value n start) = Unit
-FaultIn t (NoNumber place) = place ≤ length t
-
-length_in : (t : List ℕ) (at : ℕ) → at ≤ length t → FaultIn t (length_at t at)
+pub length_at_in : (t : List ℕ) (at place : ℕ) → length_at t at ≡ fault_at place → at ≤ length t → place ≤ length t
 unfolding length_at
-length_in t at h =
-    after_holds (FaultIn t) (number_most t at bytes_most) NoNumber _ (λ p e. fault_in t at bytes_most p e h)
-    (λ n start e. pick_holds (FaultIn t) (ltb (length t - start) n) (NoNumber (length t)) (Value n start) (λ _. omega arith) (λ _. tt))
-
-pub length_fault_in : (t : List ℕ) (at place : ℕ) → length_at t at ≡ NoNumber place → at ≤ length t → place ≤ length t
-length_fault_in t at place e h = rw e at (length_in t at h)
+length_at_in t at place e h = length_fault_in t at bytes_most place e h
 
 -- The stock lies where the session and the place before it lie, and a writer has none
 pub record Stock (t : List ℕ) (kind at n stock : ℕ) : Type 0 where
@@ -63,19 +37,20 @@ pub record Stock (t : List ℕ) (kind at n stock : ℕ) : Type 0 where
   pub ends : (bound : ℕ) → length t ≤ bound → at ≤ bound → stock + n ≤ bound
   pub none : (kind ≡ 2 → ⊥) → n ≡ 0
 
-pub stock_part : (t : List ℕ) (kind at n stock : ℕ) → stock_of t kind at ≡ Value n stock → Stock t kind at n stock
+pub stock_part : (t : List ℕ) (kind at n stock : ℕ) → stock_of t kind at ≡ found n stock → Stock t kind at n stock
 unfolding stock_of
 stock_part t kind at n stock =
-    pick_holds (λ m. m ≡ Value n stock → Stock t kind at n stock) (eqb kind 2) _ _
-    (λ k e. let w = length_part t at n stock e in record { later = omega (arith, w.later); most = w.most; ends = λ bound h l. omega (arith, w.ends); none = λ no. absurd (no (eqb-true kind 2 k)) })
+    pick_holds (λ m. m ≡ found n stock → Stock t kind at n stock) (eqb kind 2) _ _
+    (λ k e. let w = length_part t at n stock e in record { later = omega (arith, w.later); most = w.small; ends = λ bound h l. omega (arith, w.ends); none = λ no. absurd (no (eqb-true kind 2 k)) })
     (λ k e.
-    let a : 0 ≡ n = cc in
-    let b : at ≡ stock = cc in
+    let same = same_found 0 n at stock e in
+    let a : n ≡ 0 = sym same.0 in
     record { later = omega arith; most = omega arith; ends = λ bound h l. omega arith; none = λ no. omega arith })
 
-pub stock_fault_in : (t : List ℕ) (kind at place : ℕ) → stock_of t kind at ≡ NoNumber place → at ≤ length t → place ≤ length t
+pub stock_fault_in : (t : List ℕ) (kind at place : ℕ) → stock_of t kind at ≡ fault_at place → at ≤ length t → place ≤ length t
 unfolding stock_of
-stock_fault_in t kind at place e h = rw e at (pick_holds (FaultIn t) (eqb kind 2) (length_at t at) (Value 0 at) (λ _. length_in t at h) (λ _. tt))
+stock_fault_in t kind at place =
+    pick_holds (λ r. r ≡ fault_at place → at ≤ length t → place ≤ length t) (eqb kind 2) (length_at t at) (found 0 at) (λ _ e h. length_at_in t at place e h) (λ _ e. absurd (cc))
 
 -- What a call of a kind can ask for: writers' calls where the kind is not 2, a reader's where it is
 abbrev pub Fits : List ℕ → ℕ → Call → Type 0
@@ -91,25 +66,20 @@ Fits t kind Fill = kind ≡ 2
 -- A call at place `at`: its number stands there, and the rest of it after that
 pub record CallWithin (t : List ℕ) (kind at : ℕ) (call : Call) (next : ℕ) : Type 0 where
   pub body : ℕ
-  pub number : number_most t at 7 ≡ Value (call_number (asked t call)) body
+  pub number : number_most t at 7 ≡ found (call_number (asked t call)) body
   pub later : at < next
   pub ends : next ≤ length t
   pub fits : Fits t kind call
 
 -- of whatever is read
-abbrev GoodCall : List ℕ → ℕ → ℕ → CallRead → Type 0
-GoodCall t kind at (Found call next) = CallWithin t kind at call next
-GoodCall t kind at (NoCall place) = at ≤ length t → place ≤ length t
-
-true_false : ◌≡◌ {A = Bool} false true → ⊥
-true_false e =
-    let z : ◌≡◌ {A = ℕ} 0 1 = cc in
-    omega arith
+abbrev GoodCall : List ℕ → ℕ → ℕ → Found Call → Type 0
+GoodCall t kind at (Ok (call, next)) = CallWithin t kind at call next
+GoodCall t kind at (Err e) = at ≤ length t → e.place ≤ length t
 
 -- the calls one by one, where the call's number stands at place `from` and the rest at place `at`
-module _ (t : List ℕ) (kind from number at : ℕ) (here : number_most t from 7 ≡ Value number at) where
-  there : (k : ℕ) → number ≡ k → number_most t from 7 ≡ Value k at
-  there k e = here ∙ ap (λ (x : ℕ). Value x at) e
+module _ (t : List ℕ) (kind from number at : ℕ) (here : number_most t from 7 ≡ found number at) where
+  there : (k : ℕ) → number ≡ k → number_most t from 7 ≡ found k at
+  there k e = here ∙ ap (λ (x : ℕ). found x at) e
 
   after : from < at
   after = (most_places t from 7 number at here).0
@@ -121,14 +91,14 @@ module _ (t : List ℕ) (kind from number at : ℕ) (here : number_most t from 7
     write_good : number ≡ 0 → GoodCall t kind from (write_at t at)
     unfolding write_at
     write_good q =
-        after_holds (GoodCall t kind from) (length_at t at) NoCall _ (λ p e h. length_fault_in t at p e inside)
-        (λ n start e. let w = length_part t at n start e in record { body = at; number = there 0 q; later = omega (arith, w.later, after); ends = w.ends; fits = (no, (w.ends, w.most)) })
+        after_holds (GoodCall t kind from) (length_at t at) fault_at _ (λ p e h. length_at_in t at p e inside)
+        (λ n start e. let w = length_part t at n start e in record { body = at; number = there 0 q; later = omega (arith, w.later, after); ends = w.ends; fits = (no, (w.ends, w.small)) })
 
     write_all_good : number ≡ 1 → GoodCall t kind from (write_all_at t at)
     unfolding write_all_at
     write_all_good q =
-        after_holds (GoodCall t kind from) (length_at t at) NoCall _ (λ p e h. length_fault_in t at p e inside)
-        (λ n start e. let w = length_part t at n start e in record { body = at; number = there 1 q; later = omega (arith, w.later, after); ends = w.ends; fits = (no, (w.ends, w.most)) })
+        after_holds (GoodCall t kind from) (length_at t at) fault_at _ (λ p e h. length_at_in t at p e inside)
+        (λ n start e. let w = length_part t at n start e in record { body = at; number = there 1 q; later = omega (arith, w.later, after); ends = w.ends; fits = (no, (w.ends, w.small)) })
 
     writer_good : GoodCall t kind from (writer_call t from number at)
     unfolding writer_call
@@ -142,37 +112,37 @@ module _ (t : List ℕ) (kind from number at : ℕ) (here : number_most t from 7
     read_good : number ≡ 3 → GoodCall t kind from (read_at t at)
     unfolding read_at
     read_good q =
-        after_holds (GoodCall t kind from) (number_most t at bytes_most) NoCall _ (λ p e h. fault_in t at bytes_most p e inside)
+        after_holds (GoodCall t kind from) (number_most t at bytes_most) fault_at _ (λ p e h. fault_in t at bytes_most p e inside)
         (λ n next e. let w = most_places t at bytes_most n next e in record { body = at; number = there 3 q; later = omega (arith, after); ends = w.1; fits = (is, (most_value t at bytes_most n next e).1) })
 
     peek_good : number ≡ 4 → GoodCall t kind from (peek_at t at)
     unfolding peek_at
     peek_good q =
-        after_holds (GoodCall t kind from) (number_most t at word_most) NoCall _ (λ p e h. fault_in t at word_most p e inside)
+        after_holds (GoodCall t kind from) (number_most t at word_most) fault_at _ (λ p e h. fault_in t at word_most p e inside)
         (λ n next e. let w = most_places t at word_most n next e in record { body = at; number = there 4 q; later = omega (arith, after); ends = w.1; fits = (is, (most_value t at word_most n next e).1) })
 
     consume_good : number ≡ 5 → GoodCall t kind from (consume_at t at)
     unfolding consume_at
     consume_good q =
-        after_holds (GoodCall t kind from) (number_most t at word_most) NoCall _ (λ p e h. fault_in t at word_most p e inside)
+        after_holds (GoodCall t kind from) (number_most t at word_most) fault_at _ (λ p e h. fault_in t at word_most p e inside)
         (λ n next e. let w = most_places t at word_most n next e in record { body = at; number = there 5 q; later = omega (arith, after); ends = w.1; fits = (is, (most_value t at word_most n next e).1) })
 
     size_good : (direction place : ℕ) → number ≡ 6 → at ≤ place → place ≤ length t → GoodCall t kind from (size_at t direction place)
     unfolding size_at
     size_good direction place q h l =
-        after_holds (GoodCall t kind from) (number_most t place word_most) NoCall _ (λ p e _. fault_in t place word_most p e l)
+        after_holds (GoodCall t kind from) (number_most t place word_most) fault_at _ (λ p e _. fault_in t place word_most p e l)
         (λ size next e.
         let w = most_places t place word_most size next e in
         let small = (most_value t place word_most size next e).1 in
         pick_holds (GoodCall t kind from) (eqb direction 0) _ _
-        (λ _. record { body = at; number = there 6 q; later = omega (arith, after); ends = w.1; fits = (is, (small, λ f. absurd (true_false f))) })
+        (λ _. record { body = at; number = there 6 q; later = omega (arith, after); ends = w.1; fits = (is, (small, λ f. absurd (cc))) })
         (λ _. pick_holds (GoodCall t kind from) (eqb size 0) _ _ (λ _ _. l)
         (λ z. record { body = at; number = there 6 q; later = omega (arith, after); ends = w.1; fits = (is, (small, λ f. omega (arith, eqb-false size 0 z))) })))
 
     seek_good : number ≡ 6 → GoodCall t kind from (seek_at t at)
     unfolding seek_at
     seek_good q =
-        after_holds (GoodCall t kind from) (number_most t at 1) NoCall _ (λ p e h. fault_in t at 1 p e inside)
+        after_holds (GoodCall t kind from) (number_most t at 1) fault_at _ (λ p e h. fault_in t at 1 p e inside)
         (λ direction next e. let w = most_places t at 1 direction next e in size_good direction next q (omega arith) w.1)
 
     reader_good : GoodCall t kind from (reader_call t from number at)
@@ -188,16 +158,16 @@ module _ (t : List ℕ) (kind from number at : ℕ) (here : number_most t from 7
 call_good : (t : List ℕ) (kind at : ℕ) → GoodCall t kind at (call_at t kind at)
 unfolding call_at
 call_good t kind at =
-    after_holds (GoodCall t kind at) (number_most t at 7) NoCall _ (λ p e h. fault_in t at 7 p e h)
+    after_holds (GoodCall t kind at) (number_most t at 7) fault_at _ (λ p e h. fault_in t at 7 p e h)
     (λ number next e.
     pick_holds (GoodCall t kind at) (eqb kind 2) _ _
     (λ k. reader_good t kind at number next e (eqb-true kind 2 k))
     (λ k. writer_good t kind at number next e (eqb-false kind 2 k)))
 
 -- of a call that is read
-pub within : (t : List ℕ) (kind at : ℕ) (call : Call) (next : ℕ) → call_at t kind at ≡ Found call next → CallWithin t kind at call next
+pub within : (t : List ℕ) (kind at : ℕ) (call : Call) (next : ℕ) → call_at t kind at ≡ found call next → CallWithin t kind at call next
 within t kind at call next e = rw e at (call_good t kind at)
 
 -- and of a fault
-pub call_fault_in : (t : List ℕ) (kind at place : ℕ) → call_at t kind at ≡ NoCall place → at ≤ length t → place ≤ length t
+pub call_fault_in : (t : List ℕ) (kind at place : ℕ) → call_at t kind at ≡ fault_at place → at ≤ length t → place ≤ length t
 call_fault_in t kind at place e h = (rw e at (call_good t kind at)) h

@@ -3,15 +3,14 @@
 -- The place of a fault is the start of the number at fault or of the first surplus byte; where bytes run out, the input's
 -- length; for too long an input, tested first, 32,768.
 -- Assumes nothing.
-use Rattle.std.specs.Prelude.{ℕ, ◌+◌, List, eqb, ltb, length, take, drop}
+use Rattle.std.specs.Prelude.{ℕ, ◌+◌, List, Result, Ok, eqb, ltb, length, take, drop}
 use Rattle.laws.specs.Pick.{pick}
 use Rattle.card.specs.Limits.{capacity_most, script_most}
-use Rattle.numbers.specs.declared.Number.{Number}
-use Rattle.numbers.specs.declared.Number.TheVariants.{Value}
-use Rattle.numbers.specs.Number.{number_most, after}
+use Rattle.numbers.specs.declared.Fault.{Fault}
+use Rattle.numbers.specs.Number.{Found, found, fault_at, number_most, after}
 use Rattle.form.specs.declared.Header.{Header}
 use Rattle.form.specs.declared.Checked.{Checked}
-use Rattle.form.specs.declared.Checked.TheVariants.{Session, Traced, Fault}
+use Rattle.form.specs.declared.Checked.TheVariants.{Session, Traced}
 use Rattle.form.specs.Lists.{after_all}
 use Rattle.form.specs.Replies.{replies_from}
 use Rattle.form.specs.Calls.{Asked, length_at, calls_from}
@@ -30,8 +29,8 @@ pub data Parsed : Type 0 where
   session : Header → List ℕ → List ℕ → List Asked → Parsed
 
 -- For a reader stock length and bytes. A writer's stock is no bytes, at the place after the replies
-unfoldable pub stock_of : List ℕ → ℕ → ℕ → Number
-stock_of bytes kind at = pick (eqb kind 2) (length_at bytes at) (Value 0 at)
+unfoldable pub stock_of : List ℕ → ℕ → ℕ → Found ℕ
+stock_of bytes kind at = pick (eqb kind 2) (length_at bytes at) (found 0 at)
 
 -- Calls, then nothing. Surplus: at the first surplus byte
 unfoldable pub calls_of : List ℕ → Header → List ℕ → Parsed
@@ -73,7 +72,7 @@ session_of bytes =
     pick (eqb kind 3) (traced next (drop next bytes)) (capacity_at bytes kind next)))
 
 -- What a check of the session answers: refused 6 at the place of its first fault; or where the trace starts; or the header
-abbrev pub checked : Parsed → Checked
-checked (fault place) = Fault place
-checked (traced start trace) = Traced start
-checked (session header replies stock calls) = Session header
+abbrev pub checked : Parsed → Result Checked Fault
+checked (fault place) = fault_at place
+checked (traced start trace) = Ok (Traced start)
+checked (session header replies stock calls) = Ok (Session header)

@@ -12,21 +12,20 @@ use lib.Dec.{eqb}
 use lib.Seq.{drop-drop, drop-append_seam}
 use borrow.Author.Tests.{le-leb, lt-leb, le-ltb, lt-ltb, eq-eqb, ne_eqb}
 use Rattle.laws.specs.Pick.{pick}
-use Rattle.card.specs.declared.Reply.{Reply}
-use Rattle.card.specs.declared.Reply.TheVariants.{Accept, Interrupted, Error}
 use Rattle.card.specs.Answers.{Said, ok, done, interrupted, zero_taken, error}
-use Rattle.card.specs.Device.{reply_of, next, takes, at_most, exchange}
-use Rattle.flushing.specs.declared.Outcome.{Outcome}
-use Rattle.flushing.specs.declared.Outcome.TheVariants.{Done, Zero, Failed}
+use Rattle.card.specs.Device.{reply_of, next, takes, at_most, exchange, Reply}
 use Rattle.flushing.specs.declared.Sent.{Sent}
 use Rattle.flushing.specs.World.{World, Called, Fit, spare, room, replies, is_ok, and_then, nothing}
-use Rattle.flushing.specs.Send.{flush_said, write_said, flush_reply_said, send_from, sent_by}
+use Rattle.flushing.specs.Send.{flush_said, write_said, flush_reply_said, send_from, sent_by, Outcome}
 use Rattle.flushing.specs.Flush.{flush_buf, flushed_by}
 use Rattle.writer.specs.Writer.{stored, placed, readied, cold, written, device_write, write, device_flush, flush}
 use Rattle.flushing.proofs.Sends.{send_done, send_accept, send_zero, send_failed}
 use Rattle.flushing.proofs.Flushes.{Keeps, keeps, fit_after}
 use Rattle.flushing.proofs.Thens.{then_ok, then_failed}
 use Rattle.judge.specs.Table.{Direct, Synced, Stopped, WriteStep, FlushStep}
+use Rattle.std.specs.Prelude.{Ok, Err}
+use Rattle.card.specs.declared.DeviceError.TheVariants.{Interrupted, Error}
+use Rattle.flushing.specs.declared.Stop.TheVariants.{Zero, Failed}
 
 -- ---- replies
 
@@ -41,15 +40,15 @@ cut = 65536
 abbrev pub fails : ℕ → ℕ
 fails code = 65536 + code
 
-reply_accept : (m : ℕ) → m ≤ 65535 → reply_of m ≡ Accept m
+reply_accept : (m : ℕ) → m ≤ 65535 → reply_of m ≡ Ok m
 unfolding reply_of
 reply_accept m h = rw (le-leb m 65535 h)
 
-reply_fails : (code : ℕ) → 0 < code → reply_of (fails code) ≡ Error code
+reply_fails : (code : ℕ) → 0 < code → reply_of (fails code) ≡ Err (Error code)
 unfolding reply_of
 reply_fails code h =
     let less : 65536 + code - 65536 ≡ code = omega arith in
-    rw (lt-leb (65536 + code) 65535 (omega arith), ne_eqb (65536 + code) 65536 (omega arith)) (ap Error less)
+    rw (lt-leb (65536 + code) 65535 (omega arith), ne_eqb (65536 + code) 65536 (omega arith)) (ap (λ (k : ℕ). Err (Error k)) less)
 
 -- what is left of the script behind replies that were taken
 behind : (script p later : List ℕ) (used : ℕ) → drop used script ≡ p ++ later → drop (used + length p) script ≡ later
@@ -57,11 +56,11 @@ behind script p later used e = sym (drop-drop (length p) used script) ∙ ap (λ
 
 -- ---- a run of device writes on such replies
 
-accept_of : (k left room : ℕ) (l : List ℕ) → k ≤ left → k ≤ room → k ≤ 65535 → at_most (min left room) (next (k ∷ l)) ≡ Accept k
+accept_of : (k left room : ℕ) (l : List ℕ) → k ≤ left → k ≤ room → k ≤ 65535 → at_most (min left room) (next (k ∷ l)) ≡ Ok k
 unfolding at_most next
 accept_of k left room l a b c =
     let m : min k (min left room) ≡ k = omega arith in
-    rw (reply_accept k c) (ap Accept m)
+    rw (reply_accept k c) (ap Ok m)
 
 pub sends_on : (k : ℕ) (l : List ℕ) (left room sent used writes : ℕ) → k ≤ left → k ≤ room → k ≤ 65535 → send_from (sends k ++ l) left room sent used writes ≡ send_from l (left - k) (room - k) (sent + k) (used + length (sends k)) (writes + length (sends k))
 unfolding takes
@@ -77,29 +76,29 @@ sends_on k l left room sent used writes a b c = by (dec_le k 0)
     by (no z) = rw (ne_eqb k 0 (omega arith)) (send_accept (k ∷ l) left room sent used writes k (accept_of k left room l a b c) (omega arith) (omega arith))
 
 -- the end of such a run: all sent; nothing taken; failed
-pub run_done : (k : ℕ) (l : List ℕ) (room used writes : ℕ) → k ≤ room → k ≤ 65535 → send_from (sends k ++ l) k room 0 used writes ≡ sent_by Done k (used + length (sends k)) (writes + length (sends k))
+pub run_done : (k : ℕ) (l : List ℕ) (room used writes : ℕ) → k ≤ room → k ≤ 65535 → send_from (sends k ++ l) k room 0 used writes ≡ sent_by (Ok tt) k (used + length (sends k)) (writes + length (sends k))
 run_done k l room used writes b c =
     sends_on k l k room 0 used writes (omega arith) b c
     ∙ send_done l (k - k) (room - k) (0 + k) (used + length (sends k)) (writes + length (sends k)) (omega arith)
-    ∙ ap (λ (j : ℕ). sent_by Done j (used + length (sends k)) (writes + length (sends k))) (omega arith)
+    ∙ ap (λ (j : ℕ). sent_by (Ok tt) j (used + length (sends k)) (writes + length (sends k))) (omega arith)
 
-pub run_zero : (k : ℕ) (l : List ℕ) (left room used writes : ℕ) → k < left → k ≤ room → k ≤ 65535 → send_from (sends k ++ (0 ∷ l)) left room 0 used writes ≡ sent_by Zero k (used + length (sends k) + 1) (writes + length (sends k) + 1)
+pub run_zero : (k : ℕ) (l : List ℕ) (left room used writes : ℕ) → k < left → k ≤ room → k ≤ 65535 → send_from (sends k ++ (0 ∷ l)) left room 0 used writes ≡ sent_by (Err Zero) k (used + length (sends k) + 1) (writes + length (sends k) + 1)
 unfolding takes
 run_zero k l left room used writes a b c =
     sends_on k (0 ∷ l) left room 0 used writes (omega arith) b c
     ∙ send_zero (0 ∷ l) (left - k) (room - k) (0 + k) (used + length (sends k)) (writes + length (sends k)) (accept_of 0 (left - k) (room - k) l (omega arith) (omega arith) (omega arith)) (omega arith)
-    ∙ ap (λ (j : ℕ). sent_by Zero j (used + length (sends k) + 1) (writes + length (sends k) + 1)) (omega arith)
+    ∙ ap (λ (j : ℕ). sent_by (Err Zero) j (used + length (sends k) + 1) (writes + length (sends k) + 1)) (omega arith)
 
-error_of : (code most : ℕ) (l : List ℕ) → 0 < code → at_most most (next (fails code ∷ l)) ≡ Error code
+error_of : (code most : ℕ) (l : List ℕ) → 0 < code → at_most most (next (fails code ∷ l)) ≡ Err (Error code)
 unfolding at_most next
 error_of code most l h = rw (reply_fails code h) refl
 
-pub run_failed : (k code : ℕ) (l : List ℕ) (left room used writes : ℕ) → 0 < code → k < left → k ≤ room → k ≤ 65535 → send_from (sends k ++ (fails code ∷ l)) left room 0 used writes ≡ sent_by (Failed code) k (used + length (sends k) + 1) (writes + length (sends k) + 1)
+pub run_failed : (k code : ℕ) (l : List ℕ) (left room used writes : ℕ) → 0 < code → k < left → k ≤ room → k ≤ 65535 → send_from (sends k ++ (fails code ∷ l)) left room 0 used writes ≡ sent_by (Err (Failed code)) k (used + length (sends k) + 1) (writes + length (sends k) + 1)
 unfolding takes
 run_failed k code l left room used writes p a b c =
     sends_on k (fails code ∷ l) left room 0 used writes (omega arith) b c
     ∙ send_failed (fails code ∷ l) (left - k) (room - k) (0 + k) (used + length (sends k)) (writes + length (sends k)) code (error_of code (min (left - k) (room - k)) l p) (omega arith)
-    ∙ ap (λ (j : ℕ). sent_by (Failed code) j (used + length (sends k) + 1) (writes + length (sends k) + 1)) (omega arith)
+    ∙ ap (λ (j : ℕ). sent_by (Err (Failed code)) j (used + length (sends k) + 1) (writes + length (sends k) + 1)) (omega arith)
 
 -- ---- what a call gave
 
@@ -120,9 +119,9 @@ flushed_ran script later p w f o k writes e q =
 flush_done_ran : (script later : List ℕ) (w : World) → replies script w ≡ sends w.held ++ later → w.held ≤ room w → w.held ≤ 65535 → Ran script (flush_buf script w) done 0 later
 unfolding flush_buf
 flush_done_ran script later w e r m =
-    let run : send_from (replies script w) w.held (room w) 0 w.used w.writes ≡ sent_by Done w.held (w.used + length (sends w.held)) (w.writes + length (sends w.held)) =
+    let run : send_from (replies script w) w.held (room w) 0 w.used w.writes ≡ sent_by (Ok tt) w.held (w.used + length (sends w.held)) (w.writes + length (sends w.held)) =
     ap (λ (l : List ℕ). send_from l w.held (room w) 0 w.used w.writes) e ∙ run_done w.held later (room w) w.used w.writes r m in
-    let g = flushed_ran script later (sends w.held) w _ Done w.held _ e run in
+    let g = flushed_ran script later (sends w.held) w _ (Ok tt) w.held _ e run in
     record { answer = g.answer; held = g.held ∙ omega arith; left = g.left }
 
 -- two lists in a row: sends, and one reply more
@@ -135,20 +134,20 @@ long_more p n used = rw (length-append p (n ∷ [])) (omega arith)
 flush_zero_ran : (script later : List ℕ) (w : World) (k : ℕ) → replies script w ≡ sends k ++ (0 ∷ later) → k < w.held → k ≤ room w → k ≤ 65535 → Ran script (flush_buf script w) zero_taken (w.held - k) later
 unfolding flush_buf
 flush_zero_ran script later w k e a r m =
-    let run : send_from (replies script w) w.held (room w) 0 w.used w.writes ≡ sent_by Zero k (w.used + length (sends k ++ (0 ∷ []))) (w.writes + length (sends k) + 1) =
+    let run : send_from (replies script w) w.held (room w) 0 w.used w.writes ≡ sent_by (Err Zero) k (w.used + length (sends k ++ (0 ∷ []))) (w.writes + length (sends k) + 1) =
     ap (λ (l : List ℕ). send_from l w.held (room w) 0 w.used w.writes) e
     ∙ run_zero k later w.held (room w) w.used w.writes a r m
-    ∙ ap (λ (j : ℕ). sent_by Zero k j (w.writes + length (sends k) + 1)) (long_more (sends k) 0 w.used) in
-    flushed_ran script later (sends k ++ (0 ∷ [])) w _ Zero k _ (e ∙ one_more (sends k) 0 later) run
+    ∙ ap (λ (j : ℕ). sent_by (Err Zero) k j (w.writes + length (sends k) + 1)) (long_more (sends k) 0 w.used) in
+    flushed_ran script later (sends k ++ (0 ∷ [])) w _ (Err Zero) k _ (e ∙ one_more (sends k) 0 later) run
 
 flush_failed_ran : (script later : List ℕ) (w : World) (k code : ℕ) → replies script w ≡ sends k ++ (fails code ∷ later) → 0 < code → k < w.held → k ≤ room w → k ≤ 65535 → Ran script (flush_buf script w) (error code) (w.held - k) later
 unfolding flush_buf
 flush_failed_ran script later w k code e p a r m =
-    let run : send_from (replies script w) w.held (room w) 0 w.used w.writes ≡ sent_by (Failed code) k (w.used + length (sends k ++ (fails code ∷ []))) (w.writes + length (sends k) + 1) =
+    let run : send_from (replies script w) w.held (room w) 0 w.used w.writes ≡ sent_by (Err (Failed code)) k (w.used + length (sends k ++ (fails code ∷ []))) (w.writes + length (sends k) + 1) =
     ap (λ (l : List ℕ). send_from l w.held (room w) 0 w.used w.writes) e
     ∙ run_failed k code later w.held (room w) w.used w.writes p a r m
-    ∙ ap (λ (j : ℕ). sent_by (Failed code) k j (w.writes + length (sends k) + 1)) (long_more (sends k) (fails code) w.used) in
-    flushed_ran script later (sends k ++ (fails code ∷ [])) w _ (Failed code) k _ (e ∙ one_more (sends k) (fails code) later) run
+    ∙ ap (λ (j : ℕ). sent_by (Err (Failed code)) k j (w.writes + length (sends k) + 1)) (long_more (sends k) (fails code) w.used) in
+    flushed_ran script later (sends k ++ (fails code ∷ [])) w _ (Err (Failed code)) k _ (e ∙ one_more (sends k) (fails code) later) run
 
 -- one device write
 device_ran : (script later : List ℕ) (w : World) (s : List ℕ) (n : ℕ) (r : Reply) → replies script w ≡ n ∷ later → at_most (min (length s) (room w)) (next (n ∷ later)) ≡ r → Ran script (device_write script w s) (write_said r) w.held later
@@ -263,7 +262,7 @@ flush_stopped_ran script later w said h' (Stopped.failed code q) ok-code e a b r
   ap is_ok q,
 )
 
-cut_of : (most : ℕ) (rest : List ℕ) → at_most most (next (cut ∷ rest)) ≡ Interrupted
+cut_of : (most : ℕ) (rest : List ℕ) → at_most most (next (cut ∷ rest)) ≡ (Err Interrupted)
 unfolding at_most next reply_of
 cut_of most rest = refl
 
@@ -271,13 +270,13 @@ cut_of most rest = refl
 direct_ran : (script later : List ℕ) (w : World) (s : List ℕ) (said : Said) (d : Direct (length s) said) → Claimable said → replies script w ≡ direct_reply d ∷ later → length s ≤ room w → length s ≤ 65535 → Ran script (device_write script w s) said w.held later
 unfolding direct_reply Claimable
 direct_ran script later w s said (Direct.took m h q) ok-code e r l =
-    ran_as script (device_write script w s) (ok m) said w.held w.held later (device_ran script later w s m (Accept m) e (accept_of m (length s) (room w) later h (omega arith) (omega arith))) (sym q) refl
+    ran_as script (device_write script w s) (ok m) said w.held w.held later (device_ran script later w s m (Ok m) e (accept_of m (length s) (room w) later h (omega arith) (omega arith))) (sym q) refl
 direct_ran script later w s said (Direct.cut_off q) ok-code e r l =
-    ran_as script (device_write script w s) interrupted said w.held w.held later (device_ran script later w s cut Interrupted e (cut_of (min (length s) (room w)) later)) (sym q) refl
+    ran_as script (device_write script w s) interrupted said w.held w.held later (device_ran script later w s cut (Err Interrupted) e (cut_of (min (length s) (room w)) later)) (sym q) refl
 direct_ran script later w s said (Direct.failed code q) ok-code e r l =
-    ran_as script (device_write script w s) (error code) said w.held w.held later (device_ran script later w s (fails code) (Error code) e (error_of code (min (length s) (room w)) later (ok-code code q).0)) (sym q) refl
+    ran_as script (device_write script w s) (error code) said w.held w.held later (device_ran script later w s (fails code) (Err (Error code)) e (error_of code (min (length s) (room w)) later (ok-code code q).0)) (sym q) refl
 
-zero_of : (rest : List ℕ) → at_most 0 (next (0 ∷ rest)) ≡ Accept 0
+zero_of : (rest : List ℕ) → at_most 0 (next (0 ∷ rest)) ≡ Ok 0
 unfolding at_most next reply_of
 zero_of rest = refl
 
@@ -285,11 +284,11 @@ zero_of rest = refl
 synced_ran : (script later : List ℕ) (w : World) (said : Said) (d : Synced said) → Claimable said → replies script w ≡ synced_reply d ∷ later → Ran script (device_flush script w) said w.held later
 unfolding synced_reply Claimable
 synced_ran script later w said (Synced.well q) ok-code e =
-    ran_as script (device_flush script w) done said w.held w.held later (device_flush_ran script later w 0 (Accept 0) e (zero_of later)) (sym q) refl
+    ran_as script (device_flush script w) done said w.held w.held later (device_flush_ran script later w 0 (Ok 0) e (zero_of later)) (sym q) refl
 synced_ran script later w said (Synced.cut_off q) ok-code e =
-    ran_as script (device_flush script w) interrupted said w.held w.held later (device_flush_ran script later w cut Interrupted e (cut_of 0 later)) (sym q) refl
+    ran_as script (device_flush script w) interrupted said w.held w.held later (device_flush_ran script later w cut (Err Interrupted) e (cut_of 0 later)) (sym q) refl
 synced_ran script later w said (Synced.failed code q) ok-code e =
-    ran_as script (device_flush script w) (error code) said w.held w.held later (device_flush_ran script later w (fails code) (Error code) e (error_of code 0 later (ok-code code q).0)) (sym q) refl
+    ran_as script (device_flush script w) (error code) said w.held w.held later (device_flush_ran script later w (fails code) (Err (Error code)) e (error_of code 0 later (ok-code code q).0)) (sym q) refl
 
 -- ---- each row can be
 

@@ -5,36 +5,35 @@ use mathlib.Core.List.{List}
 use Prim.Native.Nat.{ℕ, ◌≤◌, min}
 use native.Mathlib.Omega.{arith}
 use lib.ListN.{length}
-use Rattle.card.specs.declared.Reply.{Reply}
-use Rattle.card.specs.declared.Reply.TheVariants.{Accept, Interrupted, Error}
 use Rattle.card.specs.Answers.{ok, done}
-use Rattle.card.specs.Device.{exchange, moves}
+use Rattle.card.specs.Device.{exchange, moves, Reply}
 use Rattle.card.proofs.Replies.{exchange_most}
-use Rattle.flushing.specs.declared.Outcome.{Outcome}
-use Rattle.flushing.specs.declared.Outcome.TheVariants.{Done, Zero, Failed}
 use Rattle.flushing.specs.World.{World, Called, Fit, room, replies}
-use Rattle.flushing.specs.Send.{flush_said, write_said, flush_reply_said, send_from}
+use Rattle.flushing.specs.Send.{flush_said, write_said, flush_reply_said, send_from, Outcome}
 use Rattle.flushing.specs.Flush.{flush_buf}
 use Rattle.writer.specs.Writer.{device_write, write, device_flush, flush}
 use Rattle.flushing.proofs.Flushes.{keeps}
 use Rattle.flushing.proofs.Cases.{flush_cases}
 use Rattle.writer.proofs.Cases.{written_cases, placed_by}
 use Rattle.judge.specs.Table.{Direct, Synced, Stopped, WriteStep, FlushStep}
+use Rattle.std.specs.Prelude.{Ok, Err}
+use Rattle.card.specs.declared.DeviceError.TheVariants.{Interrupted, Error}
+use Rattle.flushing.specs.declared.Stop.TheVariants.{Zero, Failed}
 
 -- a flush that is stopped says so
 said_stopped : (o : Outcome) → (flush_said o ≡ done → ⊥) → Stopped (flush_said o)
-said_stopped Done e = absurd (e refl)
-said_stopped Zero e = Stopped.none refl
-said_stopped (Failed code) e = Stopped.failed code refl
+said_stopped (Ok nothing) e = absurd (e refl)
+said_stopped (Err Zero) e = Stopped.none refl
+said_stopped (Err (Failed code)) e = Stopped.failed code refl
 
 flush_stopped : (script : List ℕ) (w : World) → ((flush_buf script w).answer ≡ done → ⊥) → Stopped (flush_buf script w).answer
 unfolding flush_buf
 flush_stopped script w e = said_stopped (send_from (replies script w) w.held (room w) 0 w.used w.writes).outcome e
 
 said_direct : (n most : ℕ) (r : Reply) → moves r ≤ min n most → Direct n (write_said r)
-said_direct n most (Accept m) h = Direct.took m (omega arith) refl
-said_direct n most Interrupted h = Direct.cut_off refl
-said_direct n most (Error code) h = Direct.failed code refl
+said_direct n most (Ok m) h = Direct.took m (omega arith) refl
+said_direct n most (Err Interrupted) h = Direct.cut_off refl
+said_direct n most (Err (Error code)) h = Direct.failed code refl
 
 write_direct : (script : List ℕ) (w : World) (s : List ℕ) → Direct (length s) (device_write script w s).answer
 unfolding device_write
@@ -45,9 +44,9 @@ unfolding device_write
 write_keeps script w s = refl
 
 said_synced : (r : Reply) → Synced (flush_reply_said r)
-said_synced (Accept m) = Synced.well refl
-said_synced Interrupted = Synced.cut_off refl
-said_synced (Error code) = Synced.failed code refl
+said_synced (Ok m) = Synced.well refl
+said_synced (Err Interrupted) = Synced.cut_off refl
+said_synced (Err (Error code)) = Synced.failed code refl
 
 flush_synced : (script : List ℕ) (w : World) → Synced (device_flush script w).answer
 unfolding device_flush

@@ -9,10 +9,7 @@ use native.Mathlib.Omega.{arith}
 use lib.ListN.{length, replicate, length-append}
 use lib.Dec.{eqb}
 use Rattle.laws.specs.Pick.{pick}
-use Rattle.card.specs.declared.Reply.{Reply}
-use Rattle.card.specs.declared.Reply.TheVariants.{Accept, Interrupted, Error}
-use Rattle.card.specs.Device.{reply_of, at_most, exchange}
-use Rattle.flushing.specs.declared.Outcome.TheVariants.{Done, Zero}
+use Rattle.card.specs.Device.{reply_of, at_most, exchange, Reply}
 use Rattle.flushing.specs.declared.Sent.{Sent}
 use Rattle.flushing.specs.Send.{send_from, sent_by, on_reply}
 use Rattle.flushing.specs.World.{World, room, new}
@@ -22,6 +19,9 @@ use Rattle.trace.specs.Calls.{Told, wrote, flushed, written}
 use Rattle.judge.specs.Judge.{called_by, Explains, Possible}
 use Rattle.judge.specs.Table.{piece}
 use Rattle.judge.proofs.Runs.{call_moved, ledger_long, piece_most}
+use Rattle.std.specs.Prelude.{Ok, Err}
+use Rattle.card.specs.declared.DeviceError.TheVariants.{Interrupted, Error}
+use Rattle.flushing.specs.declared.Stop.TheVariants.{Zero}
 
 -- how many bytes a call is handed
 abbrev pub size : Told → ℕ
@@ -58,9 +58,9 @@ possible_roomy C calls card p =
 -- ---- with so much room, more changes nothing
 
 on_same : (r : Reply) (f g : ℕ → Sent) (x y : Sent) (k : ℕ → Sent) → ((t : ℕ) → f t ≡ g t) → x ≡ y → on_reply r f x k ≡ on_reply r g y k
-on_same (Accept t) f g x y k h e = h t
-on_same Interrupted f g x y k h e = e
-on_same (Error code) f g x y k h e = refl
+on_same (Ok t) f g x y k h e = h t
+on_same (Err Interrupted) f g x y k h e = e
+on_same (Err (Error code)) f g x y k h e = refl
 
 -- of a flush of the buffer: its outcome, the bytes sent, the replies and the calls
 pub send_roomy : (l : List ℕ) (left a b sent used writes : ℕ) → left ≤ a → left ≤ b → send_from l left a sent used writes ≡ send_from l left b sent used writes
@@ -70,9 +70,9 @@ send_roomy (n ∷ rest) left a b sent used writes ha hb =
     let ma : min left a ≡ left = omega arith in
     let mb : min left b ≡ left = omega arith in
     rw (ma, mb)
-    (ap (λ (f : Sent). pick (eqb left 0) (sent_by Done sent used writes) f)
+    (ap (λ (f : Sent). pick (eqb left 0) (sent_by (Ok tt) sent used writes) f)
     (on_same (at_most left (reply_of n)) _ _ _ _ _
-    (λ t. ap (λ (f : Sent). pick (eqb t 0) (sent_by Zero sent (used + 1) (writes + 1)) f) (send_roomy rest (left - t) (a - t) (b - t) (sent + t) (used + 1) (writes + 1) (omega arith) (omega arith)))
+    (λ t. ap (λ (f : Sent). pick (eqb t 0) (sent_by (Err Zero) sent (used + 1) (writes + 1)) f) (send_roomy rest (left - t) (a - t) (b - t) (sent + t) (used + 1) (writes + 1) (omega arith) (omega arith)))
     (send_roomy rest left a b sent (used + 1) (writes + 1) ha hb)))
 
 -- of a direct write of n bytes: its reply

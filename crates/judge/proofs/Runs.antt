@@ -6,17 +6,14 @@ use mathlib.Core.List.{List, [], ◌∷◌, ◌++◌, append_assoc, append-nil}
 use Prim.Native.Nat.{ℕ, ◌+◌, ◌-◌, ◌≤◌, ◌<◌, ◌^◌}
 use native.Mathlib.Omega.{arith}
 use lib.ListN.{length, take, replicate, length-append, length-take, length-replicate}
-use lib.Dec.{eqb}
 use lib.Seq.{take_at, length-take-le}
-use Rattle.laws.specs.Pick.{pick}
 use Rattle.card.specs.Answers.{Said, error}
-use Rattle.flushing.specs.World.{World, begun, replies, is_ok, new, count_of}
+use Rattle.flushing.specs.World.{World, begun, replies, new}
 use Rattle.writer.specs.Writer.{write, flush}
 use Rattle.ledger.specs.Ledger.{accepted, ledger}
 use Rattle.ledger.proofs.Moves.{In, Moved, moved_in}
 use Rattle.ledger.proofs.Ledgers.{begun_fit, from_begun, write_moved, flush_moved}
 use Rattle.trace.specs.declared.Claim.{Claim}
-use Rattle.trace.specs.declared.Claim.TheVariants.{Ok, Done, Interrupted, Zero, Error}
 use Rattle.trace.specs.Claims.{claimed}
 use Rattle.trace.specs.Calls.{Told, wrote, flushed, written}
 use Rattle.trace.proofs.Within.{Fair}
@@ -93,41 +90,18 @@ script_for C h (call ∷ calls) e r = step_replies C h call r.0 r.1.0 ++ script_
 -- a claim that a trace can make has a code that a card can send
 claimable : (flush? : Bool) (said : Said) → FairSaid flush? said → Claimable said
 unfolding Claimable
-claimable flush? said f code e = by flush? f.claim f.fair (sym e ∙ f.is)
+claimable flush? said f code e = by f.claim f.fair (sym e ∙ f.is)
   where
-    by : (b : Bool) (c : Claim) → Fair b c → error code ≡ claimed c → (0 < code) × (code ≤ 4294901759)
-    by b (Ok n) (Fair.ok m) q =
-        let z : ◌≡◌ {A = ℕ} 0 1 = cc in
-        absurd (omega arith)
-    by b Done Fair.done q =
-        let z : ◌≡◌ {A = ℕ} 0 1 = cc in
-        absurd (omega arith)
-    by b Interrupted (Fair.interrupted g) q =
-        let z : ◌≡◌ {A = ℕ} 0 1 = cc in
-        absurd (omega arith)
-    by b Zero (Fair.zero g) q =
-        let z : ◌≡◌ {A = ℕ} 0 1 = cc in
-        absurd (omega arith)
-    by b (Error k) (Fair.error g m lo hi) q =
-        let same : code ≡ k = cc in
-        (omega arith, omega arith)
+    by : (c : Claim) → Fair flush? c → error code ≡ claimed c → (0 < code) × (code ≤ 4294901759)
+    by c f q = grind arith
 
 -- no step leaves more than the capacity
 step_most : (C h : ℕ) (call : Told) (h' : ℕ) → h ≤ C → Step C h call h' → h' ≤ C
-step_most C h (wrote s said) h' k (WriteStep.stored a b c d) = omega arith
-step_most C h (wrote s said) h' k (WriteStep.refilled a b c d) = omega arith
-step_most C h (wrote s said) h' k (WriteStep.direct a b c) = omega arith
-step_most C h (wrote s said) h' k (WriteStep.stopped a b c d) = omega arith
-step_most C h (flushed said) h' k (FlushStep.emptied a b) = omega arith
-step_most C h (flushed said) h' k (FlushStep.stopped a b c) = omega arith
+step_most C h call h' k s = grind arith
 
 -- an accepted prefix is no longer than the slice
 accepted_most : (s : List ℕ) (a : Said) → length (accepted s a) ≤ length s
-accepted_most s a = by (is_ok a)
-  where
-    by : (t : Bool) → length (pick t (take (count_of a) s) []) ≤ length s
-    by true = rw (length-take (count_of a) s) (omega arith)
-    by false = omega arith
+accepted_most s a = grind (arith, length-take)
 
 pub piece_most : (call : Told) (calls : List Told) → length (piece call) + written calls ≤ written (call ∷ calls)
 unfolding written
@@ -203,11 +177,7 @@ numbers_append (n ∷ a) b x y = (x.0, numbers_append a b x.1 y)
 
 numbers_sends : (k : ℕ) → k ≤ 1024 → Numbers (sends k)
 unfolding Numbers
-numbers_sends k h = by (eqb k 0)
-  where
-    by : (t : Bool) → Numbers (pick t [] (k ∷ []))
-    by true = tt
-    by false = (omega arith, tt)
+numbers_sends k h = grind arith
 
 numbers_one : (n : ℕ) → n < 2 ^ 32 → Numbers (n ∷ [])
 unfolding Numbers
@@ -215,20 +185,15 @@ numbers_one n h = (h, tt)
 
 direct_number : (n : ℕ) (said : Said) (d : Direct n said) → Claimable said → n ≤ 16384 → direct_reply d < 2 ^ 32
 unfolding direct_reply Claimable
-direct_number n said (Direct.took m h e) c l = omega arith
-direct_number n said (Direct.cut_off e) c l = omega arith
-direct_number n said (Direct.failed code e) c l = omega (arith, (c code e).1)
+direct_number n said d c l = grind arith
 
 synced_number : (said : Said) (d : Synced said) → Claimable said → synced_reply d < 2 ^ 32
 unfolding synced_reply Claimable
-synced_number said (Synced.well e) c = omega arith
-synced_number said (Synced.cut_off e) c = omega arith
-synced_number said (Synced.failed code e) c = omega (arith, (c code e).1)
+synced_number said d c = grind arith
 
 stopped_number : (said : Said) (d : Stopped said) → Claimable said → stopped_reply d < 2 ^ 32
 unfolding stopped_reply Claimable
-stopped_number said (Stopped.none e) c = omega arith
-stopped_number said (Stopped.failed code e) c = omega (arith, (c code e).1)
+stopped_number said d c = grind arith
 
 step_numbers : (C h : ℕ) (call : Told) (calls : List Told) (h' : ℕ) (st : Step C h call h') → FairTold call → C ≤ 1024 → h ≤ C → written (call ∷ calls) ≤ 16384 → Numbers (step_replies C h call h' st)
 unfolding write_replies flush_replies Numbers

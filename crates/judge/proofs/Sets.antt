@@ -1,122 +1,54 @@
--- Laws of the sets of flags, and the loops over them.
+-- Laws of the sets of flags, and the loop over one.
 -- Assumes nothing.
-use mathlib.Core.Path.{◌≡◌, sym, ap, ◌∙◌, subst}
-use mathlib.Core.Logic.{◌↔◌, ◌⊎◌, inl, inr, ⊎_elim}
+use mathlib.Core.Path.{◌≡◌}
+use mathlib.Core.Logic.{◌↔◌, ◌⊎◌}
+use mathlib.Core.Bool.{Bool, true, false, ◌||◌}
 use mathlib.Core.List.{List}
-use Prim.Native.Nat.{ℕ, ◌+◌, ◌-◌, ◌≤◌, ◌<◌, max}
-use native.Mathlib.Decide.{dec_le, ℕ_discrete}
+use Prim.Native.Nat.{ℕ, ◌+◌, ◌-◌, ◌≤◌, ◌<◌}
 use native.Mathlib.Omega.{arith}
-use lib.ListN.{length, get_or, set, get_or-eq_default}
-use lib.Seq.{get_or-set_same, get_or-set_other}
-use borrow.Author.Tests.{le-leb, lt-leb}
-use Rattle.judge.specs.Flags.{Has, Top, Adds, landing, Lands, Between}
+use borrow.Rule.Slice.PartMut.{put_mid}
+use lib.ListN.{length, get_or, set, take, drop, replicate, length-replicate}
+use lib.Seq.{get_or-set_same}
+use Rattle.std.proofs.lemmas.Bool.{cases_eq, or_cases, or_left, or_right}
+use Rattle.std.proofs.lemmas.Bool.Decides.{nat_tests}
+use Rattle.std.proofs.lemmas.List.{get_or_past, places}
+use Rattle.judge.specs.Flags.{Has, landing, Lands, Between}
+
+-- no flag is set past the end, nor in a new set
+pub has_within : (l : List Bool) (k : ℕ) → Has l k → k < length l
+has_within l k x = grind (arith, get_or_past)
+
+pub none_set : (m k : ℕ) → Has (replicate m false) k → ⊥
+none_set m k x = grind (arith, places)
 
 -- a flag that is set
-has_set : (l : List ℕ) (i k : ℕ) → i < length l → Has (set l i 1) k ↔ (Has l k ⊎ (k ≡ i))
-has_set l i k h = by (ℕ_discrete k i)
-  where
-    by : Dec (k ≡ i) → Has (set l i 1) k ↔ (Has l k ⊎ (k ≡ i))
-    by (yes e) = ((λ x. inr e), (λ x. record { is = ap (λ (j : ℕ). get_or (set l i 1) j 0) e ∙ get_or-set_same l i 1 0 h }))
-    by (no n) = ((λ x. inl (record { is = sym (get_or-set_other l i k 1 0 n) ∙ x.is })), ⊎_elim (λ x. record { is = get_or-set_other l i k 1 0 n ∙ x.is }) (λ e. absurd (n e)))
+pub has_set : (l : List Bool) (i k : ℕ) → i < length l → Has (set l i true) k ↔ (Has l k ⊎ (k ≡ i))
+has_set l i k h = grind (arith, places, get_or-set_same, cases_eq k i)
 
--- nothing added
-pub adds_none : (l : List ℕ) (P : ℕ → Type 0) → ((k : ℕ) → P k → ⊥) → Adds l l P
-adds_none l P none = record { at = λ k. ((λ x. inl x), ⊎_elim (λ x. x) (λ p. absurd (none k p))) }
+-- of a new set with its first flag
+pub has_new : (m k : ℕ) → 0 < m → Has (set (replicate m false) 0 true) k ↔ (k ≡ 0)
+has_new m k h = grind (arith, has_set (replicate m false) 0 k, none_set m k, length-replicate m false)
 
--- the same, said another way
-pub adds_as : (old new : List ℕ) (P Q : ℕ → Type 0) → Adds old new P → ((k : ℕ) → P k ↔ Q k) → Adds old new Q
-adds_as old new P Q a e =
-    record { at = λ k. ((λ x. ⊎_elim (λ y. inl y) (λ p. inr ((e k).0 p)) ((a.at k).0 x)), ⊎_elim (λ y. (a.at k).1 (inl y)) (λ q. (a.at k).1 (inr ((e k).1 q)))) }
+-- the first flag, set where b holds
+pub has_first : (l : List Bool) (b : Bool) (k : ℕ) → 0 < length l → Has (set l 0 (get_or l 0 false || b)) k ↔ (Has l k ⊎ ((b ≡ true) × (k ≡ 0)))
+has_first l b k h = grind (arith, places, get_or-set_same, cases_eq k 0, or_cases, or_left, or_right)
 
--- one flag more
-pub adds_one : (old new : List ℕ) (P Q : ℕ → Type 0) (i : ℕ) → Adds old new P → i < length new → ((k : ℕ) → (P k ⊎ (k ≡ i)) ↔ Q k) → Adds old (set new i 1) Q
-adds_one old new P Q i a h e =
-    record {
-      at = λ k. (
-        (λ x. ⊎_elim (λ y. ⊎_elim (λ z. inl z) (λ p. inr ((e k).0 (inl p))) ((a.at k).0 y)) (λ y. inr ((e k).0 (inr y))) ((has_set new i k h).0 x)),
-        ⊎_elim (λ y. (has_set new i k h).1 (inl ((a.at k).1 (inl y)))) (λ q. ⊎_elim (λ p. (has_set new i k h).1 (inl ((a.at k).1 (inr p)))) (λ y. (has_set new i k h).1 (inr y)) ((e k).1 q)),
-      );
-    }
-
--- ---- the highest flag
-
-pub top_begins : (l : List ℕ) (k : ℕ) → Has l k → k < length l
-top_begins l k x = by (dec_le (length l) k)
-  where
-    by : Dec (length l ≤ k) → k < length l
-    by (yes h) =
-        let z : ◌≡◌ {A = ℕ} 0 1 = sym (get_or-eq_default l 0 h) ∙ x.is in
-        absurd (omega arith)
-    by (no h) = omega arith
-
-pub top_hit : (l : List ℕ) (i j : ℕ) → ((k : ℕ) → Has l k → k < i) → get_or l j 0 ≡ 1 → j + 1 ≡ i → i ≤ length l → Top l i
-top_hit l i j above e q h =
-    let back : i - 1 ≡ j = omega arith in
-    record { within = h; above = above; last = λ p. record { is = ap (λ (x : ℕ). get_or l x 0) back ∙ e } }
-
-pub top_miss : (l : List ℕ) (i j : ℕ) → ((k : ℕ) → Has l k → k < i) → (get_or l j 0 ≡ 1 → ⊥) → j + 1 ≡ i → (k : ℕ) → Has l k → k < j
-top_miss l i j above n q k x = by (ℕ_discrete k j)
-  where
-    by : Dec (k ≡ j) → k < j
-    by (yes e) = absurd (n (sym (ap (λ (y : ℕ). get_or l y 0) e) ∙ x.is))
-    by (no d) = omega (arith, above k x)
-
-pub top_ends : (l : List ℕ) (i : ℕ) → ((k : ℕ) → Has l k → k < i) → i ≡ 0 → Top l 0
-top_ends l i above z = record { within = omega arith; above = λ k x. subst (λ (n : ℕ). k < n) z (above k x); last = λ p. absurd (omega arith) }
-
--- ---- a range marked
-
-pub mark_begins : (l : List ℕ) (low : ℕ) → Adds l l (Between low low)
-mark_begins l low = adds_none l (Between low low) (λ k p. omega (arith, p.least, p.most))
-
-pub mark_more : (old new : List ℕ) (low i : ℕ) → Adds old new (Between low i) → i < length new → low ≤ i → Adds old (set new i 1) (Between low (i + 1))
-mark_more old new low i a h l =
-    adds_one old new (Between low i) (Between low (i + 1)) i a h
-    (λ k. (⊎_elim (λ p. record { least = p.least; most = omega (arith, p.most) }) (λ e. record { least = omega arith; most = omega arith }), (λ p. by k p (ℕ_discrete k i))))
-  where
-    by : (k : ℕ) → Between low (i + 1) k → Dec (k ≡ i) → Between low i k ⊎ (k ≡ i)
-    by k p (yes e) = inr e
-    by k p (no n) = inl (record { least = p.least; most = omega (arith, p.most) })
-
-pub mark_ends : (old new : List ℕ) (low high i : ℕ) → Adds old new (Between low i) → low ≤ i → i ≤ max low high → high ≤ i → Adds old new (Between low high)
-mark_ends old new low high i a l m h = adds_as old new (Between low i) (Between low high) a (λ k. ((λ p. record { least = p.least; most = upper k p }), (λ p. record { least = p.least; most = omega (arith, p.most) })))
-  where
-    upper : (k : ℕ) → Between low i k → k < high
-    upper k p = omega (arith, p.least, p.most)
+-- the flags from 1 to `most`, all set
+pub has_filled : (l ys : List Bool) (most k : ℕ) → most < length l → ys ≡ replicate (length (take (most + 1 - 1) (drop 1 l))) true → Has (put_mid 1 (most + 1 - 1) l ys) k ↔ (Has l k ⊎ Between 1 (most + 1) k)
+has_filled l ys most k h e = grind (arith, places)
 
 -- ---- flags that land
 
-pub land_begins : (C n : ℕ) (old l : List ℕ) → Adds l l (Lands C n 0 old)
-land_begins C n old l = adds_none l (Lands C n 0 old) (λ k p. omega (arith, p.below))
-
-pub land_more : (C n h at : ℕ) (old l₀ l : List ℕ) → Adds l₀ l (Lands C n h old) → at ≡ landing C n h → get_or old h 0 ≡ 1 → at < length l → Adds l₀ (set l at 1) (Lands C n (h + 1) old)
-land_more C n h at old l₀ l a q x b =
-    adds_one l₀ l (Lands C n h old) (Lands C n (h + 1) old) at a b
-    (λ k. (
-      ⊎_elim (λ p. record { from = p.from; below = omega (arith, p.below); set = p.set; lands = p.lands }) (λ e. record { from = h; below = omega arith; set = record { is = x }; lands = sym q ∙ sym e }),
-      (λ p. by k p (ℕ_discrete p.from h)),
-    ))
-  where
-    by : (k : ℕ) (p : Lands C n (h + 1) old k) → Dec (p.from ≡ h) → Lands C n h old k ⊎ (k ≡ at)
-    by k p (yes e) = inr (sym p.lands ∙ ap (λ (j : ℕ). landing C n j) e ∙ sym q)
-    by k p (no d) = inl (record { from = p.from; below = omega (arith, p.below); set = p.set; lands = p.lands })
-
-pub land_skip : (C n h : ℕ) (old l₀ l : List ℕ) → Adds l₀ l (Lands C n h old) → (get_or old h 0 ≡ 1 → ⊥) → Adds l₀ l (Lands C n (h + 1) old)
-land_skip C n h old l₀ l a x =
-    adds_as l₀ l (Lands C n h old) (Lands C n (h + 1) old) a
-    (λ k. (
-      (λ p. record { from = p.from; below = omega (arith, p.below); set = p.set; lands = p.lands }),
-      (λ p. by k p (ℕ_discrete p.from h)),
-    ))
-  where
-    by : (k : ℕ) (p : Lands C n (h + 1) old k) → Dec (p.from ≡ h) → Lands C n h old k
-    by k p (yes e) = absurd (x (sym (ap (λ (j : ℕ). get_or old j 0) e) ∙ p.set.is))
-    by k p (no d) = record { from = p.from; below = omega (arith, p.below); set = p.set; lands = p.lands }
-
 -- a landing is within the capacity
-pub landing_most : (C n h at : ℕ) → at ≡ landing C n h → n < C → at ≤ C
-landing_most C n h at q l = by (dec_le (h + n) C)
-  where
-    by : Dec (h + n ≤ C) → at ≤ C
-    by (yes p) = rw q (rw (le-leb (h + n) C p) p)
-    by (no p) = rw q (rw (lt-leb (h + n) C (omega arith)) (omega arith))
+pub landing_most : (C n h : ℕ) → n < C → landing C n h ≤ C
+landing_most C n h l = grind (arith, nat_tests)
+
+pub land_begins : (C n m : ℕ) (old : List Bool) (k : ℕ) → Has (replicate m false) k ↔ Lands C n 0 old k
+land_begins C n m old k = grind (arith, places)
+
+module _ (C n h : ℕ) (old l : List Bool) (landed : (k : ℕ) → Has l k ↔ Lands C n h old k) where
+  pub land_more : (at : ℕ) → at ≡ landing C n h → get_or old h false ≡ true → at < length l → (k : ℕ) → Has (set l at true) k ↔ Lands C n (h + 1) old k
+  land_more at q x b k = grind (arith, has_set l at k b, landed k)
+
+  pub land_skip : get_or old h false ≡ false → (k : ℕ) → Has l k ↔ Lands C n (h + 1) old k
+  land_skip x k = grind (arith, landed k)

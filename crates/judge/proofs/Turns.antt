@@ -1,311 +1,158 @@
 -- A call's turn of the flags is the table's.
 -- Assumes nothing.
-use mathlib.Core.Path.{◌≡◌, refl, sym, ap, ◌∙◌, subst}
-use mathlib.Core.Logic.{◌⊎◌, inl, inr, ⊎_elim}
-use mathlib.Core.Bool.{Bool, true, false}
+use mathlib.Core.Path.{◌≡◌, refl, sym, ◌∙◌}
+use mathlib.Core.Logic.{◌↔◌, ◌⊎◌, inl, inr, ⊎_elim}
+use mathlib.Core.Bool.{Bool, true, false, ◌&&◌, ◌||◌}
 use mathlib.Core.List.{List}
-use Prim.Native.Nat.{ℕ, ◌+◌, ◌-◌, ◌≤◌, ◌<◌}
-use native.Mathlib.Decide.{dec_le}
+use Prim.Native.Nat.{ℕ, ◌+◌, ◌-◌, ◌<◌}
 use native.Mathlib.Omega.{arith}
-use lib.ListN.{length, replicate, get_or-replicate, length-replicate}
-use lib.Dec.{leb, ltb, eqb}
-use borrow.Author.Tests.{le-leb, lt-leb, lt-ltb, eq-eqb, ne_eqb, ltb-true, leb-true, eqb-true, eqb-false}
+use lib.ListN.{length, get_or, set, take, drop, replicate, length-set}
+use borrow.Rule.Slice.PartMut.{put_mid}
+use lib.Dec.{leb, ltb}
+use Rattle.std.proofs.lemmas.Bool.Decides.{nat_tests}
+use Rattle.std.proofs.lemmas.Bool.{ltb-true, lt-ltb, and_from, leb-true, and_parts, false≢true}
 use Rattle.laws.specs.Pick.{pick}
 use Rattle.card.specs.Answers.{ok}
+use Rattle.trace.specs.declared.TracedCall.{TracedCall}
 use Rattle.trace.specs.declared.Claim.{Claim}
 use Rattle.trace.specs.declared.Claim.TheVariants.{Ok, Done, Interrupted, Zero, Error}
 use Rattle.trace.specs.Claims.{claimed}
 use Rattle.judge.specs.Table.{Direct, Synced, Stopped, WriteStep, FlushStep}
-use Rattle.judge.specs.Flags.{Has, Top, Adds, landing, Lands, Storable, Between, land_end, directs, syncs, zero_end, halts, stop_end, StepOf, Leads, Turned}
-use Rattle.judge.proofs.Sets.{top_begins}
+use Rattle.judge.specs.Flags.{Has, Highest, landing, Lands, Between, whole, stores, Stored, directs, syncs, empties, halts, stops, StepOf, Leads, Turned}
+use Rattle.judge.proofs.Sets.{has_within, none_set, has_first, has_filled, landing_most, land_more}
 
 -- ---- claims and the answers of the table
 
-synced_of : (claim : Claim) → 0 < syncs claim → Synced (claimed claim)
-synced_of (Ok m) h = absurd (omega arith)
+synced_of : (claim : Claim) → syncs claim ≡ true → Synced (claimed claim)
+synced_of (Ok m) h = cc
 synced_of Done h = Synced.well refl
 synced_of Interrupted h = Synced.cut_off refl
-synced_of Zero h = absurd (omega arith)
+synced_of Zero h = cc
 synced_of (Error code) h = Synced.failed code refl
 
-syncs_of : (claim : Claim) → Synced (claimed claim) → syncs claim ≡ 1
-syncs_of (Ok m) (Synced.well e) = cc
-syncs_of (Ok m) (Synced.cut_off e) = cc
-syncs_of (Ok m) (Synced.failed code e) = cc
-syncs_of Done s = refl
-syncs_of Interrupted s = refl
-syncs_of Zero (Synced.well e) = cc
-syncs_of Zero (Synced.cut_off e) = cc
-syncs_of Zero (Synced.failed code e) = cc
-syncs_of (Error code) s = refl
+syncs_of : (claim : Claim) → Synced (claimed claim) → syncs claim ≡ true
+syncs_of claim s = grind arith
 
-direct_of : (n : ℕ) (claim : Claim) → 0 < directs n claim → Direct n (claimed claim)
-direct_of n (Ok m) h = by (leb m n) refl h
-  where
-    by : (t : Bool) → leb m n ≡ t → 0 < pick t 1 0 → Direct n (ok m)
-    by true e p = Direct.took m (leb-true m n e) refl
-    by false e p = absurd (omega arith)
-direct_of n Done h = absurd (omega arith)
+direct_of : (n : ℕ) (claim : Claim) → directs n claim ≡ true → Direct n (claimed claim)
+direct_of n (Ok m) h = Direct.took m (leb-true m n h) refl
+direct_of n Done h = cc
 direct_of n Interrupted h = Direct.cut_off refl
-direct_of n Zero h = absurd (omega arith)
+direct_of n Zero h = cc
 direct_of n (Error code) h = Direct.failed code refl
 
-directs_of : (n : ℕ) (claim : Claim) → Direct n (claimed claim) → directs n claim ≡ 1
-directs_of n (Ok m) (Direct.took k h e) =
-    let same : m ≡ k = cc in
-    rw (le-leb m n (omega arith))
-directs_of n (Ok m) (Direct.cut_off e) =
-    let z : ◌≡◌ {A = ℕ} 0 1 = cc in
-    absurd (omega arith)
-directs_of n (Ok m) (Direct.failed code e) =
-    let z : ◌≡◌ {A = ℕ} 0 1 = cc in
-    absurd (omega arith)
-directs_of n Done (Direct.took k h e) = cc
-directs_of n Done (Direct.cut_off e) = cc
-directs_of n Done (Direct.failed code e) = cc
-directs_of n Interrupted d = refl
-directs_of n Zero (Direct.took k h e) = cc
-directs_of n Zero (Direct.cut_off e) = cc
-directs_of n Zero (Direct.failed code e) = cc
-directs_of n (Error code) d = refl
+directs_of : (n : ℕ) (claim : Claim) → Direct n (claimed claim) → directs n claim ≡ true
+directs_of n claim d = grind (arith, nat_tests)
 
-stopped_of : (claim : Claim) → (halts claim ≡ 0 → ⊥) → Stopped (claimed claim)
-stopped_of (Ok m) h = absurd (h refl)
-stopped_of Done h = absurd (h refl)
-stopped_of Interrupted h = absurd (h refl)
+stopped_of : (claim : Claim) → halts claim ≡ true → Stopped (claimed claim)
+stopped_of (Ok m) h = cc
+stopped_of Done h = cc
+stopped_of Interrupted h = cc
 stopped_of Zero h = Stopped.none refl
 stopped_of (Error code) h = Stopped.failed code refl
 
-halts_of : (claim : Claim) → Stopped (claimed claim) → halts claim ≡ 1
-halts_of (Ok m) (Stopped.none e) = cc
-halts_of (Ok m) (Stopped.failed code e) = cc
-halts_of Done (Stopped.none e) = cc
-halts_of Done (Stopped.failed code e) = cc
-halts_of Interrupted (Stopped.none e) = cc
-halts_of Interrupted (Stopped.failed code e) = cc
-halts_of Zero s = refl
-halts_of (Error code) s = refl
+halts_of : (claim : Claim) → Stopped (claimed claim) → halts claim ≡ true
+halts_of claim s = grind arith
 
 -- a write that is stored claims its length
-lands_of : (C n : ℕ) (claim : Claim) → n < C → claimed claim ≡ ok n → land_end C false n claim ≡ 1025
-lands_of C n (Ok m) h e =
-    let same : m ≡ n = cc in
-    rw (lt-ltb n C h, eq-eqb m n same)
-lands_of C n Done h e =
-    let z : ◌≡◌ {A = ℕ} 0 1 = cc in
-    absurd (omega arith)
-lands_of C n Interrupted h e =
-    let z : ◌≡◌ {A = ℕ} 0 1 = cc in
-    absurd (omega arith)
-lands_of C n Zero h e =
-    let z : ◌≡◌ {A = ℕ} 0 1 = cc in
-    absurd (omega arith)
-lands_of C n (Error code) h e =
-    let z : ◌≡◌ {A = ℕ} 0 1 = cc in
-    absurd (omega arith)
-
-pub record Stores (C : ℕ) (flush : Bool) (n : ℕ) (claim : Claim) : Type 0 where
-  pub is_write : flush ≡ false
-  pub short : n < C
-  pub says : claimed claim ≡ ok n
-
-stores_of : (C : ℕ) (flush : Bool) (n : ℕ) (claim : Claim) → 0 < land_end C flush n claim → Stores C flush n claim
-stores_of C true n (Ok m) h = absurd (omega arith)
-stores_of C false n (Ok m) h = by (ltb n C) refl (eqb m n) refl h
+stores_of : (C : ℕ) (call : TracedCall) → call.flush ≡ false → call.length < C → claimed call.claim ≡ ok call.length → stores C call ≡ true
+stores_of C call f h e = rw f (and_from _ _ (lt-ltb call.length C h) (by call.claim e))
   where
-    by : (t : Bool) → ltb n C ≡ t → (u : Bool) → eqb m n ≡ u → 0 < pick t (pick u 1025 0) 0 → Stores C false n (Ok m)
-    by true a true b p = record { is_write = refl; short = ltb-true n C a; says = ap ok (eqb-true m n b) }
-    by true a false b p = absurd (omega arith)
-    by false a u b p = absurd (omega arith)
-stores_of C flush n Done h = absurd (omega arith)
-stores_of C flush n Interrupted h = absurd (omega arith)
-stores_of C flush n Zero h = absurd (omega arith)
-stores_of C flush n (Error code) h = absurd (omega arith)
+    by : (c : Claim) → claimed c ≡ ok call.length → whole call.length c ≡ true
+    by c q = grind (arith, nat_tests)
 
--- ---- each kind of flag comes from the table
+pub record Stores (C : ℕ) (call : TracedCall) : Type 0 where
+  pub is_write : call.flush ≡ false
+  pub short : call.length < C
+  pub says : claimed call.claim ≡ ok call.length
+
+stores_says : (C : ℕ) (call : TracedCall) → stores C call ≡ true → Stores C call
+stores_says C call h = grind (arith, nat_tests)
+
+-- one flag more lands, within the capacity
+pub stored_more : (C : ℕ) (call : TracedCall) (h at : ℕ) (old l : List Bool) → true ≡ stores C call → C < length l → ((k : ℕ) → Has l k ↔ Lands C call.length h old k) → at ≡ landing C call.length h → get_or old h false ≡ true → (k : ℕ) → Has (set l at true) k ↔ Lands C call.length (h + 1) old k
+stored_more C call h at old l e f i q x = land_more C call.length h old l i at q x (omega (arith, landing_most C call.length h (stores_says C call (sym e)).short))
+
+-- where nothing is stored no flag lands
+pub none_stored : (C : ℕ) (call : TracedCall) (m : ℕ) (old : List Bool) → false ≡ stores C call → Stored C call old (replicate m false)
+none_stored C call m old e = record { at = λ k. ((λ x. absurd (none_set m k x)), (λ p. absurd (false≢true (e ∙ p.0)))) }
+
+-- ---- each kind of flag comes from the table, and the table has no other
+
+pub Kinds : ℕ → TracedCall → List Bool → ℕ → ℕ → Type 0
+Kinds C call old most k =
+    (((stores C call ≡ true) × Lands C call.length (length old) old k) ⊎ ((empties C call ≡ true) × (k ≡ 0)))
+    ⊎ ((stops C call most ≡ true) × Between 1 (most + 1) k)
 
 -- from a flag that lands
-land_leads : (C : ℕ) (flush : Bool) (n : ℕ) (claim : Claim) (old : List ℕ) (k : ℕ) → Lands C n (land_end C flush n claim) old k → Leads C flush n claim old k
-land_leads C flush n claim old k p =
-    let s = stores_of C flush n claim (omega (arith, p.below)) in
-    record { from = p.from; set = p.set; step = subst (λ (b : Bool). StepOf C p.from b n claim k) (sym s.is_write) (by s.short s.says (dec_le (p.from + n) C)) }
+land_step : (C : ℕ) (call : TracedCall) (h k : ℕ) → stores C call ≡ true → landing C call.length h ≡ k → StepOf C h call k
+land_step C call h k e q =
+    let s = stores_says C call e in
+    rw s.is_write (by s.short s.says)
   where
-    by : n < C → claimed claim ≡ ok n → Dec (p.from + n ≤ C) → WriteStep C p.from n (claimed claim) k
-    by a b (yes h) = WriteStep.stored a h b (sym p.lands ∙ landed (le-leb (p.from + n) C h))
-      where
-        landed : leb (p.from + n) C ≡ true → landing C n p.from ≡ p.from + n
-        landed e = rw e
-    by a b (no h) = WriteStep.refilled a (omega arith) b (sym p.lands ∙ landed (lt-leb (p.from + n) C (omega arith)))
-      where
-        landed : leb (p.from + n) C ≡ false → landing C n p.from ≡ n
-        landed e = rw e
-
-syncs_most : (claim : Claim) → syncs claim ≤ 1
-syncs_most (Ok m) = omega arith
-syncs_most Done = omega arith
-syncs_most Interrupted = omega arith
-syncs_most Zero = omega arith
-syncs_most (Error code) = omega arith
-
-directs_most : (n : ℕ) (claim : Claim) → directs n claim ≤ 1
-directs_most n (Ok m) = by (leb m n)
-  where
-    by : (b : Bool) → pick b 1 0 ≤ 1
-    by true = omega arith
-    by false = omega arith
-directs_most n Done = omega arith
-directs_most n Interrupted = omega arith
-directs_most n Zero = omega arith
-directs_most n (Error code) = omega arith
+    by : call.length < C → claimed call.claim ≡ ok call.length → WriteStep C h call.length (claimed call.claim) k
+    by a b = grind (arith, nat_tests, WriteStep.stored, WriteStep.refilled)
 
 -- nothing held
-zero_leads : (C : ℕ) (flush : Bool) (n : ℕ) (claim : Claim) (old : List ℕ) (high k : ℕ) → Top old high → Between 0 (zero_end C flush n claim high) k → Leads C flush n claim old k
-zero_leads C flush n claim old high k t p = by (eqb high 0) refl p.most
+empty_step : (C : ℕ) (call : TracedCall) (h k : ℕ) → empties C call ≡ true → k ≡ 0 → StepOf C h call k
+empty_step C call h k e z = by call.flush e
   where
-    one : (x : ℕ) → x ≤ 1 → k < x → k ≡ 0
-    one x a b = omega arith
-
-    step : (b : Bool) → k < pick b (syncs claim) (pick (leb C n) (directs n claim) 0) → StepOf C (high - 1) b n claim k
-    step true h = FlushStep.emptied (synced_of claim (omega arith)) (one (syncs claim) (syncs_most claim) h)
-    step false h = long (leb C n) refl h
-      where
-        long : (u : Bool) → leb C n ≡ u → k < pick u (directs n claim) 0 → WriteStep C (high - 1) n (claimed claim) k
-        long true e q = WriteStep.direct (leb-true C n e) (direct_of n claim (omega arith)) (one (directs n claim) (directs_most n claim) q)
-        long false e q = absurd (omega arith)
-
-    by : (b : Bool) → eqb high 0 ≡ b → k < pick b 0 (pick flush (syncs claim) (pick (leb C n) (directs n claim) 0)) → Leads C flush n claim old k
-    by true e h = absurd (omega arith)
-    by false e h = record { from = high - 1; set = t.last (omega (arith, eqb-false high 0 e)); step = step flush h }
+    by : (b : Bool) → pick b (syncs call.claim) (leb C call.length && directs call.length call.claim) ≡ true → pick b (FlushStep h (claimed call.claim) k) (WriteStep C h call.length (claimed call.claim) k)
+    by true q = FlushStep.emptied (synced_of call.claim q) z
+    by false q =
+        let x = and_parts (leb C call.length) (directs call.length call.claim) q in
+        WriteStep.direct (leb-true C call.length x.0) (direct_of call.length call.claim x.1) z
 
 -- a stopped flush
-stop_leads : (C : ℕ) (flush : Bool) (n : ℕ) (claim : Claim) (old : List ℕ) (high k : ℕ) → Top old high → Between 1 (stop_end C flush n claim high) k → Leads C flush n claim old k
-stop_leads C flush n claim old high k t p = by (eqb (halts claim) 0) refl p.most
+stop_step : (C : ℕ) (call : TracedCall) (most k : ℕ) → stops C call most ≡ true → Between 1 (most + 1) k → StepOf C most call k
+stop_step C call most k e p = by call.flush (and_parts (halts call.claim) _ e).1
   where
-    from_high : (b : Bool) → Stopped (claimed claim) → k < pick b high (pick (ltb C (high - 1 + n)) high 0) → (StepOf C (high - 1) b n claim k) × (k < high)
-    from_high true s h = (FlushStep.stopped s p.least (omega arith), h)
-    from_high false s h = more (ltb C (high - 1 + n)) refl h
-      where
-        more : (u : Bool) → ltb C (high - 1 + n) ≡ u → k < pick u high 0 → WriteStep C (high - 1) n (claimed claim) k × (k < high)
-        more true e q = (WriteStep.stopped (ltb-true C (high - 1 + n) e) s p.least (omega arith), q)
-        more false e q = absurd (omega arith)
+    stopped : Stopped (claimed call.claim)
+    stopped = stopped_of call.claim (and_parts (halts call.claim) _ e).0
 
-    by : (b : Bool) → eqb (halts claim) 0 ≡ b → k < pick b 0 (pick flush high (pick (ltb C (high - 1 + n)) high 0)) → Leads C flush n claim old k
-    by true e h = absurd (omega arith)
-    by false e h =
-        let s = from_high flush (stopped_of claim (eqb-false (halts claim) 0 e)) h in
-        record { from = high - 1; set = t.last (omega (arith, s.1)); step = s.0 }
+    by : (b : Bool) → (b || ltb C (most + call.length)) ≡ true → pick b (FlushStep most (claimed call.claim) k) (WriteStep C most call.length (claimed call.claim) k)
+    by true q = FlushStep.stopped stopped (omega (arith, p.least)) (omega (arith, p.most))
+    by false q = WriteStep.stopped (ltb-true C (most + call.length) q) stopped (omega (arith, p.least)) (omega (arith, p.most))
 
--- ---- and the table has no other
-
-pub Kinds : ℕ → Bool → ℕ → Claim → List ℕ → ℕ → ℕ → Type 0
-Kinds C flush n claim old high k = (Lands C n (land_end C flush n claim) old k ⊎ Between 0 (zero_end C flush n claim high) k) ⊎ Between 1 (stop_end C flush n claim high) k
-
--- the ends, where their tests are known
-zero_end_flush : (C n : ℕ) (claim : Claim) (high : ℕ) → 0 < high → Synced (claimed claim) → zero_end C true n claim high ≡ 1
-zero_end_flush C n claim high h s = rw (ne_eqb high 0 (omega arith)) (syncs_of claim s)
-
-zero_end_write : (C n : ℕ) (claim : Claim) (high : ℕ) → 0 < high → C ≤ n → Direct n (claimed claim) → zero_end C false n claim high ≡ 1
-zero_end_write C n claim high h l d = rw (ne_eqb high 0 (omega arith), le-leb C n l) (directs_of n claim d)
-
-stop_end_flush : (C n : ℕ) (claim : Claim) (high : ℕ) → Stopped (claimed claim) → stop_end C true n claim high ≡ high
-stop_end_flush C n claim high s =
-    let one = halts_of claim s in
-    rw (ne_eqb (halts claim) 0 (omega arith))
-
-stop_end_write : (C n : ℕ) (claim : Claim) (high : ℕ) → Stopped (claimed claim) → C < high - 1 + n → stop_end C false n claim high ≡ high
-stop_end_write C n claim high s l =
-    let one = halts_of claim s in
-    rw (ne_eqb (halts claim) 0 (omega arith), lt-ltb C (high - 1 + n) l)
-
-at_zero : (k x : ℕ) → k ≡ 0 → x ≡ 1 → Between 0 x k
-at_zero k x a b = record { least = omega arith; most = omega arith }
-
-leads_kinds : (C : ℕ) (flush : Bool) (n : ℕ) (claim : Claim) (old : List ℕ) (high k h : ℕ) → length old ≡ 1025 → Top old high → Has old h → StepOf C h flush n claim k → Kinds C flush n claim old high k
+kinds_lead : (C : ℕ) (call : TracedCall) (old : List Bool) (most k : ℕ) → Highest old most → Kinds C call old most k → Leads C call old k
 unfolding Kinds
-leads_kinds C true n claim old high k h l t x (FlushStep.emptied s z) = inl (inr (at_zero k _ z (zero_end_flush C n claim high (omega (arith, t.above h x)) s)))
-leads_kinds C true n claim old high k h l t x (FlushStep.stopped s lo hi) =
-    let e = stop_end_flush C n claim high s in
-    inr (record { least = lo; most = omega (arith, e, t.above h x) })
-leads_kinds C false n claim old high k h l t x (WriteStep.stored a b c d) =
-    let e = lands_of C n claim a c in
-    inl (inl (record { from = h; below = omega (arith, e, top_begins old h x); set = x; lands = landed (le-leb (h + n) C b) ∙ sym d }))
-  where
-    landed : leb (h + n) C ≡ true → landing C n h ≡ h + n
-    landed e = rw e
-leads_kinds C false n claim old high k h l t x (WriteStep.refilled a b c d) =
-    let e = lands_of C n claim a c in
-    inl (inl (record { from = h; below = omega (arith, e, top_begins old h x); set = x; lands = landed (lt-leb (h + n) C b) ∙ sym d }))
-  where
-    landed : leb (h + n) C ≡ false → landing C n h ≡ n
-    landed e = rw e
-leads_kinds C false n claim old high k h l t x (WriteStep.direct a d z) = inl (inr (at_zero k _ z (zero_end_write C n claim high (omega (arith, t.above h x)) a d)))
-leads_kinds C false n claim old high k h l t x (WriteStep.stopped a s lo hi) =
-    let e = stop_end_write C n claim high s (omega (arith, t.above h x)) in
-    inr (record { least = lo; most = omega (arith, e, t.above h x) })
+kinds_lead C call old most k t =
+    ⊎_elim
+    (⊎_elim (λ x. record { from = x.1.from; set = x.1.set; step = land_step C call x.1.from k x.0 x.1.lands }) (λ x. record { from = most; set = t.set; step = empty_step C call most k x.0 x.1 }))
+    (λ x. record { from = most; set = t.set; step = stop_step C call most k x.0 x.1 })
+
+leads_kinds : (C : ℕ) (call : TracedCall) (old : List Bool) (most k h : ℕ) → Highest old most → Has old h → StepOf C h call k → Kinds C call old most k
+unfolding Kinds
+leads_kinds C call old most k h t x s = grind (arith, nat_tests, has_within old h x, t.above h x, syncs_of, directs_of, halts_of, stores_of C call)
 
 -- ---- a turn
 
-pub none_set : (m k : ℕ) → Has (replicate m 0) k → ⊥
-none_set m k x = by (dec_le m k)
-  where
-    by : Dec (m ≤ k) → ⊥
-    by (yes h) = omega (arith, top_begins (replicate m 0) k x, length-replicate {A = ℕ} m 0)
-    by (no h) =
-        let z : ◌≡◌ {A = ℕ} 0 1 = sym (get_or-replicate m k 0 0 (omega arith)) ∙ x.is in
-        omega arith
+-- without a flag nothing follows
+pub none_turned : (C : ℕ) (call : TracedCall) (old : List Bool) → ((k : ℕ) → Has old k → ⊥) → Turned C call old old
+none_turned C call old none = record { at = λ k. ((λ x. absurd (none k x)), (λ x. absurd (none x.from x.set))) }
 
-pub turned : (C : ℕ) (flush : Bool) (n : ℕ) (claim : Claim) (old a b c : List ℕ) (high le ze se : ℕ) → length old ≡ 1025 → Top old high → le ≡ land_end C flush n claim → ze ≡ zero_end C flush n claim high → se ≡ stop_end C flush n claim high → Adds (replicate 1025 0) a (Lands C n le old) → Adds a b (Between 0 ze) → Adds b c (Between 1 se) → Turned C flush n claim old c
-unfolding Kinds
-turned C flush n claim old a b c high le ze se l t pl pz ps xa xb xc =
-    record {
-      at = λ k. (
-        (λ x.
-            ⊎_elim
-            (λ y.
-            ⊎_elim
-            (λ z.
-            ⊎_elim (λ u. absurd (none_set 1025 k u)) (λ u. land_leads C flush n claim old k (subst (λ (m : ℕ). Lands C n m old k) pl u)) ((xa.at k).0 z))
-            (λ z. zero_leads C flush n claim old high k t (subst (λ (m : ℕ). Between 0 m k) pz z))
-            ((xb.at k).0 y))
-            (λ y. stop_leads C flush n claim old high k t (subst (λ (m : ℕ). Between 1 m k) ps y))
-            ((xc.at k).0 x)),
-        (λ x.
-            ⊎_elim
-            (λ y.
-            (xc.at k).1
-            (inl
-            ((xb.at k).1
-            (⊎_elim (λ z. inl ((xa.at k).1 (inr (subst (λ (m : ℕ). Lands C n m old k) (sym pl) z)))) (λ z. inr (subst (λ (m : ℕ). Between 0 m k) (sym pz) z)) y))))
-            (λ y. (xc.at k).1 (inr (subst (λ (m : ℕ). Between 1 m k) (sym ps) y)))
-            (leads_kinds C flush n claim old high k x.from l t x.set x.step)),
-      );
-    }
+turned : (C : ℕ) (call : TracedCall) (old new : List Bool) (most : ℕ) → Highest old most → ((k : ℕ) → Has new k ↔ Kinds C call old most k) → Turned C call old new
+turned C call old new most t i =
+    record { at = λ k. ((λ x. kinds_lead C call old most k t ((i k).0 x)), (λ x. (i k).1 (leads_kinds C call old most k x.from t x.set x.step))) }
 
--- ---- the ends are within the flags
+module _ (C : ℕ) (call : TracedCall) (old a : List Bool) (most : ℕ) (b : Bool) (t : Highest old most) (s : Stored C call old a) (e : b ≡ empties C call) (l : length a ≡ 1025) (m : length old ≡ 1025) where
+  -- the flags of what is stored, and that of nothing held
+  two_kinds : (k : ℕ) → Has (set a 0 (get_or a 0 false || b)) k ↔ (((stores C call ≡ true) × Lands C call.length (length old) old k) ⊎ ((empties C call ≡ true) × (k ≡ 0)))
+  two_kinds k =
+      let f = has_first a b k (omega arith) in (
+        (λ x. ⊎_elim (λ y. inl ((s.at k).0 y)) (λ y. inr (sym e ∙ y.0, y.1)) (f.0 x)),
+        ⊎_elim (λ y. f.1 (inl ((s.at k).1 y))) (λ y. f.1 (inr (e ∙ y.0, y.1))),
+      )
 
-pick_most : (t : Bool) (a b m : ℕ) → a ≤ m → b ≤ m → pick t a b ≤ m
-pick_most true a b m p q = p
-pick_most false a b m p q = q
+  pub turned_no_stop : false ≡ stops C call most → Turned C call old (set a 0 (get_or a 0 false || b))
+  unfolding Kinds
+  turned_no_stop q = turned C call old _ most t (λ k. ((λ x. inl ((two_kinds k).0 x)), ⊎_elim (λ y. (two_kinds k).1 y) (λ y. absurd (false≢true (q ∙ y.0)))))
 
-pub land_end_most : (C : ℕ) (flush : Bool) (n : ℕ) (claim : Claim) → land_end C flush n claim ≤ 1025
-land_end_most C flush n (Ok m) = pick_most flush 0 _ 1025 (omega arith) (pick_most (ltb n C) _ 0 1025 (pick_most (eqb m n) 1025 0 1025 (omega arith) (omega arith)) (omega arith))
-land_end_most C flush n Done = omega arith
-land_end_most C flush n Interrupted = omega arith
-land_end_most C flush n Zero = omega arith
-land_end_most C flush n (Error code) = omega arith
-
-pub zero_end_most : (C : ℕ) (flush : Bool) (n : ℕ) (claim : Claim) (high : ℕ) → zero_end C flush n claim high ≤ 1
-zero_end_most C flush n claim high = pick_most (eqb high 0) 0 _ 1 (omega arith) (pick_most flush (syncs claim) _ 1 (syncs_most claim) (pick_most (leb C n) (directs n claim) 0 1 (directs_most n claim) (omega arith)))
-
-pub stop_end_most : (C : ℕ) (flush : Bool) (n : ℕ) (claim : Claim) (high : ℕ) → stop_end C flush n claim high ≤ high
-stop_end_most C flush n claim high = pick_most (eqb (halts claim) 0) 0 _ high (omega arith) (pick_most flush high _ high (omega arith) (pick_most (ltb C (high - 1 + n)) high 0 high (omega arith) (omega arith)))
-
-pub storable : (C n le old : ℕ) (flush : Bool) (claim : Claim) → le ≡ land_end C flush n claim → old ≡ 1025 → C ≤ 1024 → n ≤ 16384 → Storable C n le old 1025
-storable C n le old flush claim q l c s =
-    record {
-      within = omega (arith, land_end_most C flush n claim);
-      few = omega arith;
-      short = s;
-      fits = λ p. (stores_of C flush n claim (omega arith)).short;
-      room = omega arith;
-    }
+  pub turned_stop : (ys : List Bool) → true ≡ stops C call most → ys ≡ replicate (length (take (most + 1 - 1) (drop 1 (set a 0 (get_or a 0 false || b))))) true → Turned C call old (put_mid 1 (most + 1 - 1) (set a 0 (get_or a 0 false || b)) ys)
+  unfolding Kinds
+  turned_stop ys q f =
+      turned C call old _ most t
+      (λ k.
+      let h = has_filled (set a 0 (get_or a 0 false || b)) ys most k (omega (arith, length-set a 0 (get_or a 0 false || b), has_within old most t.set)) f in (
+        (λ x. ⊎_elim (λ y. inl ((two_kinds k).0 y)) (λ y. inr (sym q, y)) (h.0 x)),
+        ⊎_elim (λ y. h.1 (inl ((two_kinds k).1 y))) (λ y. h.1 (inr y.1)),
+      ))

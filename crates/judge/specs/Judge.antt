@@ -1,13 +1,14 @@
 -- Module 5, the judge: a trace is possible exactly when some finite list of card replies explains it.
 -- Assumes nothing.
-use Rattle.std.specs.Prelude.{ℕ, ◌≤◌, ◌<◌, ◌^◌, ◌≡◌, ◌↔◌, List, [], ◌∷◌, length, take, replicate}
+use Rattle.std.specs.Prelude.{ℕ, ◌≤◌, ◌<◌, ◌^◌, ◌≡◌, ◌↔◌, Result, Ok, Err, List, [], ◌∷◌, length, take, replicate}
 use Rattle.card.specs.Answers.{Said}
+use Rattle.numbers.specs.declared.Fault.{Fault}
 use Rattle.flushing.specs.World.{World, Called, begun, new}
 use Rattle.writer.specs.Writer.{write, flush}
 use Rattle.trace.specs.Calls.{Told, wrote, flushed, written}
 use Rattle.trace.specs.Trace.{Parsed, fault, trace}
 use Rattle.judge.specs.declared.Verdict.{Verdict}
-use Rattle.judge.specs.declared.Verdict.TheVariants.{Possible as possible, Impossible as impossible, Refused as refused}
+use Rattle.judge.specs.declared.Verdict.TheVariants.{Possible as possible, Impossible as impossible}
 
 -- a traced call, made by the writer's own definition
 abbrev pub called_by : List ℕ → World → Told → Called
@@ -38,14 +39,14 @@ pub record Possible (capacity : ℕ) (calls : List Told) (card : List ℕ) : Typ
   pub explains : Explains script (new (replicate capacity 0) medium) calls card
 
 -- What a verdict says: 1 possible, 0 impossible, or 5, refused, with refusal 7 and its place
-abbrev pub ruling : Verdict → List ℕ
-ruling possible = 1 ∷ []
-ruling impossible = 0 ∷ []
-ruling (refused place) = 5 ∷ 7 ∷ place ∷ []
+abbrev pub ruling : Result Verdict Fault → List ℕ
+ruling (Ok possible) = 1 ∷ []
+ruling (Ok impossible) = 0 ∷ []
+ruling (Err e) = 5 ∷ 7 ∷ e.place ∷ []
 
 -- The right verdict. A trace with a fault is refused at its place; any other is possible exactly when it can be explained,
 -- and impossible exactly when it cannot
-unfoldable pub Judged : Parsed → Verdict → Type 0
+unfoldable pub Judged : Parsed → Result Verdict Fault → Type 0
 Judged (fault place) v = ruling v ≡ 5 ∷ 7 ∷ place ∷ []
 Judged (trace header calls card) v =
     ((ruling v ≡ 1 ∷ []) ↔ Possible header.capacity calls card)

@@ -1,179 +1,138 @@
-// A set of held counts, a flag for each of 0 to 1,024, and how a traced call moves it.
-ghost use Rattle.std.specs.Prelude.{◌≡◌, ◌+◌, ◌-◌, ◌≤◌, ◌<◌, length};
-ghost use Rattle.judge.specs.Flags.{Top, Adds, Lands, Storable, Between, landing, land_end, directs, syncs, zero_end, halts, stop_end, Turned};
+// A set of held counts, a flag for each of 0 to 1,024, and how a traced call moves it. The set is an
+// array, since there is no heap.
+ghost use Rattle.std.specs.Prelude.{◌≡◌, ◌↔◌, ℕ, ◌≤◌, ◌<◌, true, MatchOption};
+ghost use Rattle.judge.specs.Flags.{Has, Highest, Stored, landing, stores, directs, syncs, empties, halts, stops, Turned};
 
-use card::bytes;
-use trace::Claim;
+use card::limits;
+use trace::{Claim, TracedCall};
 
-// How many places lead up to the highest flag, 0 where none is set.
-fn top(flags: &[u8]) -> usize
-    ensures { Top flags.now result }
-{
-    let mut i = flags.len();
-    while 0 < i {
-        let before = i - 1;
-        if flags[before] == 1 {
-            return i;
-        }
-        i = before;
-    }
-    0
+// How many held counts there are: none, and each up to the largest capacity.
+const COUNTS: usize = limits::CAPACITY_MOST + 1;
+
+// Which counts of bytes a buffer of this capacity can hold.
+#[derive(Drop)]
+pub(crate) struct Counts {
+    capacity: usize,
+    flags: [bool; COUNTS],
+    ghost small: { capacity ≤ 1024 },
 }
 
-// Sets the flags from `low` up to `high`.
-fn mark(flags: &mut [u8], low: usize, high: usize)
-    requires { high ≤ length flags.old }
-    ensures { Adds flags.old flags.new (Between low high) }
-{
-    let mut i = low;
-    while i < high {
-        flags[i] = 1;
-        i += 1;
+impl Counts {
+    // Nothing held.
+    pub(crate) fn new(capacity: usize) -> Counts
+        requires { capacity ≤ 1024 }
+        ensures capacity { result.capacity ≡ capacity }
+        ensures flags { (k : ℕ) → Has result.flags k ↔ (k ≡ 0) }
+    {
+        let mut flags = [false; COUNTS];
+        flags[0] = true;
+        Counts { capacity, flags }
     }
-}
 
-// Where a stored slice of n bytes leaves h held bytes.
-fn landing_of(capacity: usize, n: usize, h: usize) -> usize
-    requires { (h ≤ 16384) × (n ≤ 16384) }
-    ensures { result ≡ landing capacity n h }
-{
-    if h + n <= capacity {
-        return h + n;
+    // Whether so many bytes can be held.
+    pub(crate) fn has(&self, count: usize) -> bool
+        ensures { (result ≡ true) ↔ Has self.now.flags count }
+    {
+        count < COUNTS && self.flags[count]
     }
-    n
-}
 
-// Sets the flags at which those of `old` below `most` land, when a slice of n bytes is stored.
-fn land(old: &[u8], new: &mut [u8], capacity: usize, n: usize, most: usize)
-    requires { Storable capacity n most (length old.now) (length new.old) }
-    ensures { Adds new.old new.new (Lands capacity n most old.now) }
-{
-    let mut i = 0;
-    while i < most {
-        let h = i;
-        i += 1;
-        if old[h] == 1 {
-            let at = landing_of(capacity, n, h);
-            new[at] = 1;
-        }
+    // The most that can be held, if anything of this set can.
+    fn highest(&self) -> Option<usize>
+        ensures { MatchOption result ((k : ℕ) → Has self.now.flags k → ⊥) (Highest self.now.flags) }
+    {
+        self.flags.iter().rposition(|held| *held)
     }
-}
 
-// ---- how far a claim reaches
+    // Where a stored slice of n bytes leaves h held bytes.
+    fn landing(&self, n: usize, h: usize) -> usize
+        requires { (n < self.now.capacity) × (h ≤ 1024) }
+        ensures { result ≡ landing self.now.capacity n h }
+    {
+        if h + n <= self.capacity { h + n } else { n }
+    }
 
-fn land_end(capacity: usize, flush: bool, n: usize, claim: Claim) -> usize
-    ensures { result ≡ land_end capacity flush n claim }
-{
-    match claim {
-        Claim::Ok(m) => {
-            if flush {
-                return 0;
+    // Whether a call says that its slice was stored.
+    fn stores(&self, call: &TracedCall) -> bool
+        ensures { result ≡ stores self.now.capacity call.now }
+    {
+        !call.flush
+            && call.length < self.capacity
+            && matches!(call.claim, Claim::Ok(m) if m == call.length)
+    }
+
+    // The flags at which these land, if the call's slice was stored. None if it was not.
+    fn stored(&self, call: &TracedCall) -> [bool; COUNTS]
+        ensures { Stored self.now.capacity call.now self.now.flags result }
+    {
+        let mut new = [false; COUNTS];
+        if self.stores(call) {
+            for (h, held) in self.flags.iter().enumerate() {
+                if *held {
+                    new[self.landing(call.length, h)] = true;
+                }
             }
-            if capacity <= n {
-                return 0;
-            }
-            if m == n {
-                return 1025;
-            }
-            0
         }
-        Claim::Done => 0,
-        Claim::Interrupted => 0,
-        Claim::Zero => 0,
-        Claim::Error(_) => 0,
+        new
+    }
+
+    // Whether the call can leave nothing held.
+    fn empties(&self, call: &TracedCall) -> bool
+        ensures { result ≡ empties self.now.capacity call.now }
+    {
+        if call.flush {
+            syncs(call.claim)
+        } else {
+            self.capacity <= call.length && directs(call.length, call.claim)
+        }
+    }
+
+    // Whether a stopped flush can leave any count from 1 to `most`, the highest that was held.
+    fn stops(&self, call: &TracedCall, most: usize) -> bool
+        requires { (most ≤ 1024) × (call.now.length ≤ 16384) }
+        ensures { result ≡ stops self.now.capacity call.now most }
+    {
+        halts(call.claim) && (call.flush || self.capacity < most + call.length)
+    }
+
+    // The counts after a call.
+    pub(crate) fn turn(&mut self, call: &TracedCall)
+        requires { call.now.length ≤ 16384 }
+        ensures capacity { self.new.capacity ≡ self.old.capacity }
+        ensures flags { Turned self.old.capacity call.now self.old.flags self.new.flags }
+    {
+        // An empty set stays empty.
+        let Some(most) = self.highest() else {
+            return;
+        };
+        self.flags = self.stored(call);
+        self.flags[0] |= self.empties(call);
+        if self.stops(call, most) {
+            self.flags[1..=most].fill(true);
+        }
     }
 }
 
-fn direct_end(n: usize, claim: Claim) -> usize
+// Whether a device write of n bytes can say this.
+fn directs(n: usize, claim: Claim) -> bool
     ensures { result ≡ directs n claim }
 {
     match claim {
-        Claim::Ok(m) => {
-            if m <= n {
-                return 1;
-            }
-            0
-        }
-        Claim::Done => 0,
-        Claim::Interrupted => 1,
-        Claim::Zero => 0,
-        Claim::Error(_) => 1,
+        Claim::Ok(m) => m <= n,
+        Claim::Interrupted | Claim::Error(_) => true,
+        Claim::Done | Claim::Zero => false,
     }
 }
 
-fn sync_end(claim: Claim) -> usize
+// Whether a device flush can say this.
+fn syncs(claim: Claim) -> bool
     ensures { result ≡ syncs claim }
 {
-    match claim {
-        Claim::Ok(_) => 0,
-        Claim::Done => 1,
-        Claim::Interrupted => 1,
-        Claim::Zero => 0,
-        Claim::Error(_) => 1,
-    }
+    matches!(claim, Claim::Done | Claim::Interrupted | Claim::Error(_))
 }
 
-fn zero_end(capacity: usize, flush: bool, n: usize, claim: Claim, high: usize) -> usize
-    ensures { result ≡ zero_end capacity flush n claim high }
-{
-    if high == 0 {
-        return 0;
-    }
-    if flush {
-        return sync_end(claim);
-    }
-    if capacity <= n {
-        return direct_end(n, claim);
-    }
-    0
-}
-
-fn halting(claim: Claim) -> usize
+// Whether a flush of the buffer that is stopped can say this.
+fn halts(claim: Claim) -> bool
     ensures { result ≡ halts claim }
 {
-    match claim {
-        Claim::Ok(_) => 0,
-        Claim::Done => 0,
-        Claim::Interrupted => 0,
-        Claim::Zero => 1,
-        Claim::Error(_) => 1,
-    }
-}
-
-fn stop_end(capacity: usize, flush: bool, n: usize, claim: Claim, high: usize) -> usize
-    requires { (high ≤ 16384) × (n ≤ 16384) }
-    ensures { result ≡ stop_end capacity flush n claim high }
-{
-    if halting(claim) == 0 {
-        return 0;
-    }
-    if flush {
-        return high;
-    }
-    if capacity < bytes::left(high, 1) + n {
-        return high;
-    }
-    0
-}
-
-// The flags after a call, from those before it.
-pub(crate) fn turn(
-    old: [u8; 1025],
-    capacity: usize,
-    flush: bool,
-    n: usize,
-    claim: Claim,
-) -> [u8; 1025]
-    requires { (capacity ≤ 1024) × (n ≤ 16384) }
-    ensures { Turned capacity flush n claim old result }
-{
-    let high = top(&old);
-    let lands = land_end(capacity, flush, n, claim);
-    let zero = zero_end(capacity, flush, n, claim, high);
-    let stop = stop_end(capacity, flush, n, claim, high);
-    let mut next = [0u8; 1025];
-    land(&old, &mut next, capacity, n, lands);
-    mark(&mut next, 0, zero);
-    mark(&mut next, 1, stop);
-    next
+    matches!(claim, Claim::Zero | Claim::Error(_))
 }

@@ -7,7 +7,8 @@ use native.Mathlib.Numerals.{add-one}
 use native.Mathlib.Nat.{add_assoc, zero-add}
 use native.Mathlib.Omega.{arith}
 use lib.ListN.{length, take, drop, get_or, set, length-drop}
-use lib.Seq.{paste-zero, paste-suc, length-paste, take-paste, drop-paste, take-add, drop-drop, take-take, take-append-add, length-take-le, get_or-drop}
+use lib.Seq.{paste, paste-zero, paste-suc, length-paste, take-paste, drop-paste, take-add, drop-drop, take-take, take-append-add, length-take-le, get_or-drop}
+use borrow.Rule.Slice.PartMut.{put_mid}
 use Rattle.laws.specs.Put.{put}
 
 -- nothing pasted
@@ -21,6 +22,15 @@ put_zero d at s n e = rw e (put_none d at s)
 -- a paste whose count, or whose source, is another form of the same
 pub put_count : (x d : List ℕ) (at : ℕ) (s : List ℕ) (m n : ℕ) → x ≡ put d at s m → m ≡ n → x ≡ put d at s n
 put_count x d at s m n e q = rw (← q) e
+
+-- a paste by the library's own word, and a part of d that is given other bytes
+pub put_paste : (x d : List ℕ) (at : ℕ) (s : List ℕ) (n : ℕ) → x ≡ paste d at s n → x ≡ put d at s n
+unfolding put
+put_paste x d at s n e = e
+
+pub put_mid_is : (d : List ℕ) (at k : ℕ) (s x : List ℕ) (m n : ℕ) → x ≡ take m s → k ≡ m → m ≡ n → put_mid at k d x ≡ put d at s n
+unfolding put
+put_mid_is d at k s x m n e p q = rw (e, p, q) (sym (append_assoc (take at d) (take n s) (drop n (drop at d))) ∙ ap (λ (l : List ℕ). take at d ++ take n s ++ l) (drop-drop n at d))
 
 -- the definition as a law, for proofs that keep it shut
 pub opened : (d : List ℕ) (at : ℕ) (s : List ℕ) (n : ℕ) → put d at s n ≡ take at d ++ take n s ++ drop (at + n) d

@@ -9,11 +9,9 @@ use lib.ListN.{length, take, drop, length-drop, length-take}
 use lib.Seq.{take-add, take-take, take-nil}
 use lib.Dec.{eqb}
 use Rattle.laws.specs.Pick.{pick}
-use Rattle.card.specs.declared.Reply.{Reply}
-use Rattle.card.specs.declared.Reply.TheVariants.{Accept, Interrupted, Error}
 use Rattle.card.specs.Answers.{Said, ok, done, refused}
 use Rattle.card.specs.Limits.{refusal_of, length_refusal}
-use Rattle.card.specs.Device.{exchange, moves}
+use Rattle.card.specs.Device.{exchange, moves, Reply}
 use Rattle.card.proofs.Replies.{exchange_most, takes_fit, used_of_exchange}
 use Rattle.flushing.specs.World.{World, Called, Fit, taken, kept, capacity, room, replies, is_ok, and_then, nothing, refusing, begun, new, count_of}
 use Rattle.flushing.specs.Send.{write_said, send_from}
@@ -28,6 +26,8 @@ use Rattle.writer.proofs.Cases.{written_cases, placed_by}
 use Rattle.ledger.proofs.Moves.{In, fit_in, Moved, moved_in, moved_then, unmoved, drained_moved, taken_moved, kept_moved}
 use Rattle.line.proofs.Newlines.{lines_most}
 use Rattle.line.proofs.Lines.{tail_most}
+use Rattle.std.specs.Prelude.{Ok, Err}
+use Rattle.card.specs.declared.DeviceError.TheVariants.{Interrupted, Error}
 
 -- ---- the parts
 
@@ -41,9 +41,9 @@ flush_buf_moved script w i =
 
 -- what one device write moves is what it accepts
 write_moves : (s : List ℕ) (r : Reply) → take (moves r) s ≡ accepted s (write_said r)
-write_moves s (Accept n) = refl
-write_moves s Interrupted = refl
-write_moves s (Error code) = refl
+write_moves s (Ok n) = refl
+write_moves s (Err Interrupted) = refl
+write_moves s (Err (Error code)) = refl
 
 pub device_write_moved : (script : List ℕ) (w : World) (s : List ℕ) → In script w → w.held ≡ 0 → Moved script w (device_write script w s).world (accepted s (device_write script w s).answer)
 unfolding device_write
@@ -103,9 +103,9 @@ flush_moved script w fit =
 
 -- a device write that is ok takes at most what it is offered
 ok_count : (s : List ℕ) (most : ℕ) (r : Reply) → is_ok (write_said r) ≡ true → moves r ≤ min (length s) most → count_of (write_said r) ≤ length s
-ok_count s most (Accept n) o h = omega arith
-ok_count s most Interrupted o h = omega arith
-ok_count s most (Error code) o h =
+ok_count s most (Ok n) o h = omega arith
+ok_count s most (Err Interrupted) o h = omega arith
+ok_count s most (Err (Error code)) o h =
     let z : ◌≡◌ {A = ℕ} 0 1 = cc in
     absurd (omega arith)
 

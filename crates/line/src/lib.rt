@@ -3,3 +3,4 @@
 
 pub mod linewriter;
 pub mod newline;
+mod plain;

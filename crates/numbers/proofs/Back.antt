@@ -9,20 +9,19 @@ use native.Mathlib.Omega.{arith}
 use lib.Dec.{ltb, eqb}
 use lib.ListN.{length, take, drop, get_or, length-drop, take-append-drop}
 use lib.Seq.{take-append_seam, get_or-drop}
-use borrow.Author.Tests.{lt-ltb, le-ltb, ne_eqb, ltb-true, ltb-false, eqb-true, eqb-false}
+use borrow.Author.Tests.{lt-ltb, le-ltb, ltb-true, ltb-false, eqb-true, eqb-false}
 use Rattle.laws.proofs.Picks.{by_test}
-use Rattle.numbers.specs.declared.Number.{Number}
-use Rattle.numbers.specs.declared.Number.TheVariants.{Value, Fault}
-use Rattle.numbers.specs.Number.{ended, groups_from, number_of, number}
+use Rattle.numbers.specs.declared.Fault.{Fault}
+use Rattle.numbers.specs.Number.{Found, found, fault_at, ended, groups_from, number_of, number}
 use Rattle.numbers.specs.Width.{Width}
 use Rattle.numbers.specs.Written.{group_bytes, number_bytes}
-use Rattle.numbers.proofs.Groups.{more, unpast}
+use Rattle.numbers.proofs.Groups.{not_past, unpast, not_long, more}
 
 -- Whatever holds in the four cases of a byte holds of the number from there on
-pub by_cases : (P : Number → Type 0) (top start end left weight value at byte : ℕ) (rest : List ℕ)
-    → ((eqb left 1 && ltb top byte) ≡ true → P (Fault start))
-    → ((eqb left 1 && ltb top byte) ≡ false → byte ≡ 0 → start < at → P (Fault start))
-    → ((eqb left 1 && ltb top byte) ≡ false → byte < 128 → (start < at → 0 < byte) → P (Value (value + byte * weight) (at + 1)))
+pub by_cases : (P : Found ℕ → Type 0) (top start end left weight value at byte : ℕ) (rest : List ℕ)
+    → ((eqb left 1 && ltb top byte) ≡ true → P (fault_at start))
+    → ((eqb left 1 && ltb top byte) ≡ false → byte ≡ 0 → start < at → P (fault_at start))
+    → ((eqb left 1 && ltb top byte) ≡ false → byte < 128 → (start < at → 0 < byte) → P (found (value + byte * weight) (at + 1)))
     → ((eqb left 1 && ltb top byte) ≡ false → 128 ≤ byte → P (groups_from top start end (left - 1) (weight * 128) (value + (byte - 128) * weight) (at + 1) rest))
     → P (groups_from top start end left weight value at (byte ∷ rest))
 unfolding groups_from ended
@@ -36,21 +35,27 @@ by_cases P top start end left weight value at byte rest over long last go =
     (λ z. rw (p, s, z) (last p (ltb-true byte 128 s) (λ h. omega (arith, eqb-false byte 0 z)))))
     (λ s. rw (p, s) (go p (ltb-false byte 128 s))))
 
--- a fault is no value
-pub no_value : (p v next : ℕ) → Fault p ≡ Value v next → ⊥
-no_value p v next e =
-    let z : ◌≡◌ {A = ℕ} 0 1 = cc in
-    omega arith
+-- a fault has one place
+pub same_place : {A : Type 0} (p q : ℕ) → fault_at {A = A} p ≡ fault_at q → p ≡ q
+same_place p q e =
+    let faults : ◌≡◌ {A = Fault} (record { place = p }) (record { place = q }) = cc in
+    ap (λ f. f.place) faults
+
+-- what is found is one value and one place
+pub same_found : {A : Type 0} (a b : A) (m n : ℕ) → found a m ≡ found b n → (a ≡ b) × (m ≡ n)
+same_found {A = A} a b m n e =
+    let pair : ◌≡◌ {A = A × ℕ} (a, m) (b, n) = cc in
+    (ap (λ x. x.0) pair, ap (λ x. x.1) pair)
 
 -- a number that is read has at least one byte, and no byte past the end
-pub places : (top start end left weight value at : ℕ) (l : List ℕ) (v next : ℕ) → groups_from top start end left weight value at l ≡ Value v next → (at < next) × (next ≤ at + length l)
+pub places : (top start end left weight value at : ℕ) (l : List ℕ) (v next : ℕ) → groups_from top start end left weight value at l ≡ found v next → (at < next) × (next ≤ at + length l)
 unfolding groups_from
-places top start end left weight value at [] v next e = absurd (no_value end v next e)
+places top start end left weight value at [] v next e = absurd (cc)
 places top start end left weight value at (byte ∷ rest) v next e =
-    by_cases (λ n. n ≡ Value v next → (at < next) × (next ≤ at + length (byte ∷ rest))) top start end left weight value at byte rest
-    (λ p e. absurd (no_value start v next e))
-    (λ p z a e. absurd (no_value start v next e))
-    (λ p s a e. let q : at + 1 ≡ next = cc in (omega arith, omega arith))
+    by_cases (λ n. n ≡ found v next → (at < next) × (next ≤ at + length (byte ∷ rest))) top start end left weight value at byte rest
+    (λ p e. absurd (cc))
+    (λ p z a e. absurd (cc))
+    (λ p s a e. let q : at + 1 ≡ next = (same_found _ _ _ _ e).1 in (omega arith, omega arith))
     (λ p h e. let r = places top start end (left - 1) (weight * 128) (value + (byte - 128) * weight) (at + 1) rest v next e in (omega arith, omega arith))
     e
 
@@ -60,13 +65,6 @@ two_groups value low high weight =
     add_assoc value (low * weight) (high * (weight * 128))
     ∙ ap (λ (x : ℕ). value + (low * weight + x)) (ap (λ (x : ℕ). high * x) (mul_comm weight 128) ∙ sym (mul_assoc high 128 weight))
     ∙ ap (λ (x : ℕ). value + x) (sym (add-mul low (high * 128) weight))
-
--- a byte that is no fault
-not_past : (left top byte : ℕ) → (left ≡ 1 → byte ≤ top) → (eqb left 1 && ltb top byte) ≡ false
-not_past left top byte h = by_test (eqb left 1) (λ e. rw e (le-ltb top byte (h (eqb-true left 1 e)))) (λ e. rw e refl)
-
-not_long : (start at byte : ℕ) → (start < at → 0 < byte) → (eqb byte 0 && ltb start at) ≡ false
-not_long start at byte h = by_test (ltb start at) (λ e. rw (ne_eqb byte 0 (λ z. omega (arith, h (ltb-true start at e)))) refl) (λ e. by_test (eqb byte 0) (λ z. rw (z, e) refl) (λ z. rw z refl))
 
 -- one group less
 less_groups : (top left v : ℕ) → v < (top + 1) * 128 ^ left → 1 ≤ left → v / 128 < (top + 1) * 128 ^ (left - 1)
@@ -82,9 +80,9 @@ one_group top left v h z =
     omega arith
 
 -- the definition's steps, as equations
-step_last : (top start end left weight value at byte : ℕ) (rest : List ℕ) → (left ≡ 1 → byte ≤ top) → byte < 128 → (start < at → 0 < byte) → groups_from top start end left weight value at (byte ∷ rest) ≡ Value (value + byte * weight) (at + 1)
+step_last : (top start end left weight value at byte : ℕ) (rest : List ℕ) → (left ≡ 1 → byte ≤ top) → byte < 128 → (start < at → 0 < byte) → groups_from top start end left weight value at (byte ∷ rest) ≡ found (value + byte * weight) (at + 1)
 unfolding groups_from ended
-step_last top start end left weight value at byte rest h l s = rw (not_past left top byte h, lt-ltb byte 128 l, not_long start at byte s) refl
+step_last top start end left weight value at byte rest h l s = rw (not_past left top byte h, lt-ltb byte 128 l, not_long start at byte (λ z. by_test (ltb start at) (λ a. absurd (omega (arith, s (ltb-true start at a)))) (λ a. ltb-false start at a))) refl
 
 step_more : (top start end left weight value at byte : ℕ) (rest : List ℕ) → (left ≡ 1 → byte ≤ top) → 128 ≤ byte → groups_from top start end left weight value at (byte ∷ rest) ≡ groups_from top start end (left - 1) (weight * 128) (value + (byte - 128) * weight) (at + 1) rest
 unfolding groups_from
@@ -100,7 +98,7 @@ unfolding group_bytes
 bytes_more left v e = rw e refl
 
 -- what is written is read
-pub reads : (top start end left weight value at v : ℕ) (post : List ℕ) → 1 ≤ left → top < 128 → v < (top + 1) * 128 ^ (left - 1) → (start < at → 0 < v) → groups_from top start end left weight value at (group_bytes left v ++ post) ≡ Value (value + v * weight) (at + length (group_bytes left v))
+pub reads : (top start end left weight value at v : ℕ) (post : List ℕ) → 1 ≤ left → top < 128 → v < (top + 1) * 128 ^ (left - 1) → (start < at → 0 < v) → groups_from top start end left weight value at (group_bytes left v ++ post) ≡ found (value + v * weight) (at + length (group_bytes left v))
 reads top start end zero weight value at v post h t b s = absurd (omega arith)
 reads top start end (suc left) weight value at v post h t b s =
     let same : suc left - 1 ≡ left = omega arith in
@@ -118,7 +116,7 @@ reads top start end (suc left) weight value at v post h t b s =
     (step_more top start end (suc left) weight value at (128 + v % 128) (group_bytes left (v / 128) ++ post) (λ o. absurd (omega arith)) (omega arith)
     ∙ ap₂ (λ (x y : ℕ). groups_from top start end x (weight * 128) (value + y * weight) (at + 1) (group_bytes left (v / 128) ++ post)) same low
     ∙ reads top start end left (weight * 128) (value + v % 128 * weight) (at + 1) (v / 128) post some t (less_groups top left v b' some) (λ o. omega arith)
-    ∙ ap₂ (λ (x y : ℕ). Value x y) sum place))
+    ∙ ap₂ (λ (x y : ℕ). found x y) sum place))
 
 -- the same of any count of groups
 some_last : (left v : ℕ) → 1 ≤ left → v < 128 → group_bytes left v ≡ v ∷ []
@@ -184,25 +182,25 @@ later top start left weight value at byte rest v next b small two s m =
       ends = rw written (omega (arith, m.ends));
     }
 
-pub only_these : (top start end left weight value at : ℕ) (l : List ℕ) (v next : ℕ) → Bytes l → 1 ≤ left → top < 128 → start ≤ at → groups_from top start end left weight value at l ≡ Value v next → Meant top start left weight value at l v next
+pub only_these : (top start end left weight value at : ℕ) (l : List ℕ) (v next : ℕ) → Bytes l → 1 ≤ left → top < 128 → start ≤ at → groups_from top start end left weight value at l ≡ found v next → Meant top start left weight value at l v next
 unfolding groups_from
-only_these top start end left weight value at [] v next f h t s e = absurd (no_value end v next e)
+only_these top start end left weight value at [] v next f h t s e = absurd (cc)
 only_these top start end left weight value at (byte ∷ rest) v next f h t s e =
-    by_cases (λ n. n ≡ Value v next → Meant top start left weight value at (byte ∷ rest) v next) top start end left weight value at byte rest
-    (λ p e. absurd (no_value start v next e))
-    (λ p z a e. absurd (no_value start v next e))
-    (λ p l a e. let one = some_last left byte h l in record {
+    by_cases (λ n. n ≡ found v next → Meant top start left weight value at (byte ∷ rest) v next) top start end left weight value at byte rest
+    (λ p e. absurd (cc))
+    (λ p z a e. absurd (cc))
+    (λ p l a e. let one = some_last left byte h l in let same = same_found _ _ _ _ e in record {
       meant = byte;
-      makes = cc;
+      makes = sym same.0;
       below = last_group top left byte (unpast left top byte p) h l;
       shortest = a;
       tail = rest;
       bytes = rw one refl;
-      ends = rw one (cc);
+      ends = rw one (sym same.1);
     })
     (λ p b e.
     let small : byte < 256 = f 0 in
-    let two : 2 ≤ left = more left top byte p b t h in
+    let two : 2 ≤ left = more left top byte (unpast left top byte p) b t h in
     let m = only_these top start end (left - 1) (weight * 128) (value + (byte - 128) * weight) (at + 1) rest v next (λ i. f (suc i)) (omega arith) t (omega arith) e in
     later top start left weight value at byte rest v next b small two s m)
     e
@@ -214,14 +212,14 @@ pub record Stands (groups top : ℕ) (bytes : List ℕ) (at v next : ℕ) : Type
   pub part : take (length (group_bytes groups v)) (drop at bytes) ≡ group_bytes groups v
 
 -- For every width: reading what the plain writer writes gives the number back, with the place after it ..
-pub back_of : (groups top : ℕ) (bytes : List ℕ) (at v : ℕ) → Width groups top → v < (top + 1) * 128 ^ (groups - 1) → take (length (group_bytes groups v)) (drop at bytes) ≡ group_bytes groups v → number_of groups top bytes at ≡ Value v (at + length (group_bytes groups v))
+pub back_of : (groups top : ℕ) (bytes : List ℕ) (at v : ℕ) → Width groups top → v < (top + 1) * 128 ^ (groups - 1) → take (length (group_bytes groups v)) (drop at bytes) ≡ group_bytes groups v → number_of groups top bytes at ≡ found v (at + length (group_bytes groups v))
 unfolding number_of
 back_of groups top bytes at v w h e =
     let k = length (group_bytes groups v) in
     let split : drop at bytes ≡ group_bytes groups v ++ drop k (drop at bytes) = sym (take-append-drop k (drop at bytes)) ∙ ap (λ (x : List ℕ). x ++ drop k (drop at bytes)) e in
     ap (λ (x : List ℕ). groups_from top at (length bytes) groups 1 0 at x) split
     ∙ reads top at (length bytes) groups 1 0 at v (drop k (drop at bytes)) w.some w.seven h (λ a. absurd (omega arith))
-    ∙ ap (λ (x : ℕ). Value x (at + k)) (omega (arith, mul-one v))
+    ∙ ap (λ (x : ℕ). found x (at + k)) (omega (arith, mul-one v))
 
 stands : (groups top : ℕ) (bytes : List ℕ) (at v next : ℕ) → Meant top at groups 1 0 at (drop at bytes) v next → Stands groups top bytes at v next
 stands groups top bytes at v next m =
@@ -233,7 +231,7 @@ stands groups top bytes at v next m =
     }
 
 -- .. and no other bytes do
-pub only_of : (groups top : ℕ) (bytes : List ℕ) (at v next : ℕ) → Width groups top → Bytes bytes → number_of groups top bytes at ≡ Value v next → Stands groups top bytes at v next
+pub only_of : (groups top : ℕ) (bytes : List ℕ) (at v next : ℕ) → Width groups top → Bytes bytes → number_of groups top bytes at ≡ found v next → Stands groups top bytes at v next
 unfolding number_of
 only_of groups top bytes at v next w f e = stands groups top bytes at v next (only_these top at (length bytes) groups 1 0 at (drop at bytes) v next (λ i. rw (get_or-drop at bytes i 0) (f (at + i))) w.some w.seven (omega arith) e)
 
@@ -242,18 +240,18 @@ pub width : Width 5 15
 width = record { some = omega arith; more = omega arith; seven = omega arith; fits = omega arith }
 
 -- The same of numbers below 2^32
-pub back : (bytes : List ℕ) (at v : ℕ) → v < 2 ^ 32 → take (length (number_bytes v)) (drop at bytes) ≡ number_bytes v → number bytes at ≡ Value v (at + length (number_bytes v))
+pub back : (bytes : List ℕ) (at v : ℕ) → v < 2 ^ 32 → take (length (number_bytes v)) (drop at bytes) ≡ number_bytes v → number bytes at ≡ found v (at + length (number_bytes v))
 unfolding number number_bytes
 back bytes at v h e = back_of 5 15 bytes at v width h e
 
-pub only : (bytes : List ℕ) (at v next : ℕ) → Bytes bytes → number bytes at ≡ Value v next → (v < 2 ^ 32) × ((next ≡ at + length (number_bytes v)) × (take (length (number_bytes v)) (drop at bytes) ≡ number_bytes v))
+pub only : (bytes : List ℕ) (at v next : ℕ) → Bytes bytes → number bytes at ≡ found v next → (v < 2 ^ 32) × ((next ≡ at + length (number_bytes v)) × (take (length (number_bytes v)) (drop at bytes) ≡ number_bytes v))
 unfolding number number_bytes
 only bytes at v next f e =
     let s = only_of 5 15 bytes at v next width f e in
     (s.below, (s.ends, s.part))
 
 -- the places of a value: after its start, and not past the end
-pub value_places : (bytes : List ℕ) (at v next : ℕ) → number bytes at ≡ Value v next → (at < next) × (next ≤ length bytes)
+pub value_places : (bytes : List ℕ) (at v next : ℕ) → number bytes at ≡ found v next → (at < next) × (next ≤ length bytes)
 unfolding number number_of
 value_places bytes at v next e =
     let p = places 15 at (length bytes) 5 1 0 at (drop at bytes) v next e in

@@ -4,28 +4,26 @@ use mathlib.Core.Path.{◌≡◌, refl}
 use mathlib.Core.List.{List, [], ◌∷◌}
 use Prim.Native.Nat.{ℕ}
 use native.Mathlib.Omega.{arith}
-use Rattle.numbers.specs.declared.Number.{Number}
-use Rattle.numbers.specs.declared.Number.TheVariants.{Value, Fault}
-use Rattle.numbers.specs.Number.{ended, groups_from, number_of, number}
+use Rattle.numbers.specs.Number.{Found, found, fault_at, ended, groups_from, number_of, number}
 use Rattle.numbers.specs.Width.{Width}
 use Rattle.numbers.specs.Written.{group_bytes, number_bytes}
 
 pub record Row : Type 0 where
   pub bytes : List ℕ
   pub at : ℕ
-  pub finds : Number
+  pub finds : Found ℕ
 
 abbrev pub rows : List Row
 rows =
-    record { bytes = 0x85 ∷ 0x80 ∷ 0x04 ∷ []; at = 0; finds = Value 65541 3 }
-    ∷ record { bytes = 0x07 ∷ 0x7f ∷ []; at = 1; finds = Value 127 2 }
-    ∷ record { bytes = []; at = 0; finds = Fault 0 }
-    ∷ record { bytes = 0x00 ∷ 0xff ∷ 0xff ∷ []; at = 1; finds = Fault 3 }
-    ∷ record { bytes = 0x80 ∷ 0x80 ∷ 0x80 ∷ 0x80 ∷ 0x80 ∷ []; at = 0; finds = Fault 0 }
-    ∷ record { bytes = 0xff ∷ 0xff ∷ 0xff ∷ 0xff ∷ 0x0f ∷ []; at = 0; finds = Value 4294967295 5 }
-    ∷ record { bytes = 0x07 ∷ 0x80 ∷ 0x80 ∷ 0x80 ∷ 0x80 ∷ 0x10 ∷ 0x00 ∷ []; at = 1; finds = Fault 1 }
-    ∷ record { bytes = 0x80 ∷ 0x80 ∷ 0x80 ∷ 0x80 ∷ 0x00 ∷ []; at = 0; finds = Fault 0 }
-    ∷ record { bytes = 0x80 ∷ 0x00 ∷ 0x00 ∷ []; at = 0; finds = Fault 0 }
+    record { bytes = 0x85 ∷ 0x80 ∷ 0x04 ∷ []; at = 0; finds = found 65541 3 }
+    ∷ record { bytes = 0x07 ∷ 0x7f ∷ []; at = 1; finds = found 127 2 }
+    ∷ record { bytes = []; at = 0; finds = fault_at 0 }
+    ∷ record { bytes = 0x00 ∷ 0xff ∷ 0xff ∷ []; at = 1; finds = fault_at 3 }
+    ∷ record { bytes = 0x80 ∷ 0x80 ∷ 0x80 ∷ 0x80 ∷ 0x80 ∷ []; at = 0; finds = fault_at 0 }
+    ∷ record { bytes = 0xff ∷ 0xff ∷ 0xff ∷ 0xff ∷ 0x0f ∷ []; at = 0; finds = found 4294967295 5 }
+    ∷ record { bytes = 0x07 ∷ 0x80 ∷ 0x80 ∷ 0x80 ∷ 0x80 ∷ 0x10 ∷ 0x00 ∷ []; at = 1; finds = fault_at 1 }
+    ∷ record { bytes = 0x80 ∷ 0x80 ∷ 0x80 ∷ 0x80 ∷ 0x00 ∷ []; at = 0; finds = fault_at 0 }
+    ∷ record { bytes = 0x80 ∷ 0x00 ∷ 0x00 ∷ []; at = 0; finds = fault_at 0 }
     ∷ []
 
 -- every row as it is said

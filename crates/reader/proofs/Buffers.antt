@@ -14,13 +14,12 @@ use Rattle.laws.specs.Put.{put}
 use Rattle.laws.proofs.Picks.{pick_holds}
 use Rattle.laws.proofs.Parts.{rest, drop_least, take_least}
 use Rattle.laws.proofs.Puts.{opened, length-put}
-use Rattle.card.specs.Device.{exchange, at_most, moves}
-use Rattle.card.specs.declared.Reply.{Reply}
-use Rattle.card.specs.declared.Reply.TheVariants.{Accept, Interrupted, Error}
+use Rattle.std.specs.Prelude.{Ok, Err}
+use Rattle.card.specs.Device.{Reply, accept, exchange, at_most, moves}
 use Rattle.card.specs.declared.Exchange.{Exchange}
 use Rattle.card.proofs.Replies.{exchange_most, takes_fit}
 use Rattle.reader.specs.declared.State.{State}
-use Rattle.reader.specs.World.{World, Fetched, Fit, world, fetched}
+use Rattle.reader.specs.World.{World, Fetched, Fit, world, since}
 use Rattle.reader.specs.Buffer.{count, shown, discard, backshift, added, read_more, fill_buf}
 
 -- a part of the storage, cut to what is there
@@ -48,9 +47,8 @@ put_back s x at src n e =
 -- a reply that is cut moves no more
 pub moves_cut : (most : ℕ) (r : Reply) → moves (at_most most r) ≤ moves r
 unfolding at_most
-moves_cut most (Accept n) = omega arith
-moves_cut most Interrupted = omega arith
-moves_cut most (Error code) = omega arith
+moves_cut most (Ok n) = omega arith
+moves_cut most (Err e) = omega arith
 
 -- no more than was offered, nor than was left
 pub gives : (e : Exchange) (left : List ℕ) (used a b n : ℕ) → e ≡ exchange left used (min a b) → n ≡ moves e.reply → (n ≤ a) × (n ≤ b)
@@ -58,28 +56,29 @@ gives e left used a b n pe pn =
     let h : moves e.reply ≤ min a b = rw pe (exchange_most left used (min a b)) in
     omega arith
 
--- the same of a read into the storage from a place on
-pub gives_more : (script stock s : List ℕ) (st : State) (e : Exchange) (n : ℕ) → e ≡ exchange (drop st.used script) st.used (min (length (take (length s - st.filled) (drop st.filled s))) (length stock - st.taken)) → n ≡ moves e.reply → (n ≤ length s - st.filled) × (n ≤ length stock - st.taken)
-gives_more script stock s st e n pe pn =
+-- the same of a read into the storage from a place on: what it gives fits behind what is filled, and there was as much
+pub gives_more : (script stock s : List ℕ) (st : State) (e : Exchange) (n : ℕ) → e ≡ exchange (drop st.used script) st.used (min (length (take (length s - st.filled) (drop st.filled s))) (length stock - st.taken)) → n ≡ moves e.reply → Fit script stock (world s st) → (st.filled + n ≤ length s) × (st.taken + n ≤ length stock)
+gives_more script stock s st e n pe pn f =
     let q : length (take (length s - st.filled) (drop st.filled s)) ≡ length s - st.filled = ap length (rest st.filled s) ∙ length-drop st.filled s in
-    gives e (drop st.used script) st.used (length s - st.filled) (length stock - st.taken) n (rw q at pe) pn
+    let g = gives e (drop st.used script) st.used (length s - st.filled) (length stock - st.taken) n (rw q at pe) pn in
+    (omega (arith, g.0, f.filled_in), omega (arith, g.1, f.taken_in))
 
-pub more_got : (script stock s x : List ℕ) (st : State) (e : Exchange) (n : ℕ) → e ≡ exchange (drop st.used script) st.used (min (length (take (length s - st.filled) (drop st.filled s))) (length stock - st.taken)) → x ≡ put (take (length s - st.filled) (drop st.filled s)) 0 (drop st.taken stock) (moves e.reply) → n ≡ moves e.reply → fetched (record { reply = e.reply; calls = 1; state = record { pos = st.pos; filled = st.filled + n; taken = st.taken + n; used = e.used } }) (put_mid st.filled (length s - st.filled) s x) ≡ read_more (drop st.used script) stock (world s st)
+pub more_got : (script stock s x : List ℕ) (st : State) (e : Exchange) (n k : ℕ) → e ≡ exchange (drop st.used script) st.used (min (length (take (length s - st.filled) (drop st.filled s))) (length stock - st.taken)) → x ≡ put (take (length s - st.filled) (drop st.filled s)) 0 (drop st.taken stock) (moves e.reply) → n ≡ moves e.reply → record { reply = e.reply; calls = k + 1; world = world (put_mid st.filled (length s - st.filled) s x) (record { pos = st.pos; filled = st.filled + n; taken = st.taken + n; used = e.used }) } ≡ since k (read_more (drop st.used script) stock (world s st))
 unfolding read_more added
-more_got script stock s x st e n pe px pn =
+more_got script stock s x st e n k pe px pn =
     let q : length (take (length s - st.filled) (drop st.filled s)) ≡ length s - st.filled = ap length (rest st.filled s) ∙ length-drop st.filled s in
     let whole : e ≡ exchange (drop st.used script) st.used (min (length s - st.filled) (length stock - st.taken)) = rw q at pe in
     rw (← whole, pn, put_back s x st.filled (drop st.taken stock) (moves e.reply) px)
 
 -- nothing buffered: the device is asked
-pub fill_read : (script stock s : List ℕ) (st d : State) (f : Fetched) → f ≡ read_more (drop d.used script) stock (world s d) → d ≡ discard st → st.pos ≡ st.filled → f ≡ fill_buf (drop st.used script) stock (world s st)
-unfolding fill_buf
-fill_read script stock s st d f ef ed h = rw (eq-eqb _ _ h) (rw ed at ef)
+pub fill_read : (script stock s : List ℕ) (st d : State) (k : ℕ) (f : Fetched) → f ≡ since k (read_more (drop d.used script) stock (world s d)) → k ≡ 0 → d ≡ discard st → st.pos ≡ st.filled → f ≡ fill_buf (drop st.used script) stock (world s st)
+unfolding fill_buf read_more added
+fill_read script stock s st d k f ef ek ed h = rw (eq-eqb _ _ h) (rw (ed, ek) at ef)
 
 -- else it is not
-pub fill_kept : (left stock s : List ℕ) (st : State) (n : ℕ) → n ≡ st.filled - st.pos → (st.pos ≡ st.filled → ⊥) → fetched (record { reply = Accept n; calls = 0; state = st }) s ≡ fill_buf left stock (world s st)
+pub fill_kept : (left stock s : List ℕ) (st : State) (n k : ℕ) → n ≡ st.filled - st.pos → k ≡ 0 → (st.pos ≡ st.filled → ⊥) → record { reply = accept n; calls = k; world = world s st } ≡ fill_buf left stock (world s st)
 unfolding fill_buf
-fill_kept left stock s st n en h = rw (ne_eqb _ _ h, en)
+fill_kept left stock s st n k en ek h = rw (ne_eqb _ _ h, en, ek)
 
 -- What a call of the buffer keeps: the state fits, and the storage is as long as it was
 pub record Kept (script stock : List ℕ) (capacity : ℕ) (v : World) : Type 0 where

@@ -9,11 +9,11 @@ use lib.Dec.{leb, eqb}
 use lib.IntN.{ℤ, pos, negsuc}
 use lib.ListN.{length, drop}
 use Rattle.laws.proofs.Picks.{pick_holds}
-use Rattle.card.specs.Device.{at_most, exchange}
+use Rattle.std.specs.Prelude.{Ok, Err}
+use Rattle.card.specs.Device.{Reply, accept, at_most, exchange}
+use Rattle.card.specs.declared.DeviceError.TheVariants.{Interrupted, Error}
 use Rattle.card.specs.Limits.{length_refusal}
 use Rattle.card.proofs.Ends.{ended, ended_by, exchange_counts}
-use Rattle.card.specs.declared.Reply.{Reply}
-use Rattle.card.specs.declared.Reply.TheVariants.{Accept, Interrupted, Error}
 use Rattle.reader.specs.declared.State.{State}
 use Rattle.reader.specs.World.{World, Fetched, Called, Reading, world}
 use Rattle.reader.specs.Buffer as Buffer
@@ -23,9 +23,9 @@ use Rattle.reader.proofs.Peeks.{back_used, end_accepts}
 
 -- what is handed up ends with the reply
 handed_ended : (r : Reply) → ended (handed r) ≡ ended_by r
-handed_ended (Accept n) = refl
-handed_ended Interrupted = refl
-handed_ended (Error code) = refl
+handed_ended (Ok n) = refl
+handed_ended (Err Interrupted) = refl
+handed_ended (Err (Error code)) = refl
 
 -- one call of the device
 exchange_handed : (left : List ℕ) (used most : ℕ) → 1 + used ≡ (exchange left used most).used + ended (handed (exchange left used most).reply)
@@ -50,17 +50,16 @@ fill_counts left stock w =
     (λ e. more_counts left stock (world w.storage (discard w.state)))
     (λ e. omega arith)
 
-after_counts : (from : ℕ) (r : Reply) (calls : ℕ) (v : World) (on : Fetched) → calls + from ≡ v.state.used + ended (handed r) → ((k : ℕ) → r ≡ Accept k → Counts from on) → Counts from (after_more r calls v on)
+after_counts : (from : ℕ) (r : Reply) (calls : ℕ) (v : World) (on : Fetched) → calls + from ≡ v.state.used + ended (handed r) → ((k : ℕ) → r ≡ accept k → Counts from on) → Counts from (after_more r calls v on)
 unfolding after_more Counts
-after_counts from (Accept n) calls v on h o = pick_holds (Counts from) (eqb n 0) _ _ (λ e. h) (λ e. o n refl)
-after_counts from Interrupted calls v on h o = h
-after_counts from (Error code) calls v on h o = h
+after_counts from (Ok n) calls v on h o = pick_holds (Counts from) (eqb n 0) _ _ (λ e. h) (λ e. o n refl)
+after_counts from (Err e) calls v on h o = h
 
 turn_made : (from : ℕ) (left stock : List ℕ) (calls : ℕ) (w : World) → calls + from ≡ w.state.used → calls + (read_more left stock (shifted_back w)).calls + from ≡ (read_more left stock (shifted_back w)).world.state.used + ended (handed (read_more left stock (shifted_back w)).reply)
 unfolding Counts
 turn_made from left stock calls w h = omega (arith, more_counts left stock (shifted_back w), back_used w)
 
-turn_accepts : (from : ℕ) (left stock : List ℕ) (calls k : ℕ) (w : World) → calls + from ≡ w.state.used → (read_more left stock (shifted_back w)).reply ≡ Accept k → calls + 1 + from ≡ (read_more left stock (shifted_back w)).world.state.used
+turn_accepts : (from : ℕ) (left stock : List ℕ) (calls k : ℕ) (w : World) → calls + from ≡ w.state.used → (read_more left stock (shifted_back w)).reply ≡ accept k → calls + 1 + from ≡ (read_more left stock (shifted_back w)).world.state.used
 turn_accepts from left stock calls k w h e =
     let m = turn_made from left stock calls w h in
     let one : (read_more left stock (shifted_back w)).calls ≡ 1 = more_one left stock (shifted_back w) in
@@ -68,7 +67,7 @@ turn_accepts from left stock calls k w h e =
     omega arith
 
 -- a turn, when `calls` were made since `from`
-turn_counts : (from : ℕ) (left stock : List ℕ) (n calls : ℕ) (w : World) (on : World → Fetched) → calls + from ≡ w.state.used → ((v : World) (k : ℕ) → (read_more left stock (shifted_back w)).reply ≡ Accept k → calls + 1 + from ≡ v.state.used → Counts from (on v)) → Counts from (peek_turn left stock n calls w on)
+turn_counts : (from : ℕ) (left stock : List ℕ) (n calls : ℕ) (w : World) (on : World → Fetched) → calls + from ≡ w.state.used → ((v : World) (k : ℕ) → (read_more left stock (shifted_back w)).reply ≡ accept k → calls + 1 + from ≡ v.state.used → Counts from (on v)) → Counts from (peek_turn left stock n calls w on)
 unfolding peek_turn Counts
 turn_counts from left stock n calls w on h o =
     pick_holds (Counts from) (leb n (count w.state)) _ _
@@ -115,9 +114,8 @@ direct_reports script stock d w = exchange_handed (drop w.state.used script) w.s
 
 ended_cut : (most : ℕ) (r : Reply) → ended (handed (at_most most r)) ≡ ended (handed r)
 unfolding at_most
-ended_cut most (Accept n) = refl
-ended_cut most Interrupted = refl
-ended_cut most (Error code) = refl
+ended_cut most (Ok n) = refl
+ended_cut most (Err e) = refl
 
 copied_reports : (d : List ℕ) (w : World) (f : Fetched) → Counts w.state.used f → Reports w (copied d f).called
 unfolding copied Reports Counts

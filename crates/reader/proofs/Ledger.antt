@@ -15,12 +15,12 @@ use borrow.Author.Tests.{eqb-true}
 use Rattle.laws.proofs.Picks.{pick_holds}
 use Rattle.laws.specs.Pick.{pick}
 use Rattle.laws.specs.Put.{put}
-use Rattle.laws.proofs.Puts.{opened, put_none, length-put, take_put}
+use Rattle.laws.proofs.Puts.{put_none, put_same, length-put, take_put}
 use Rattle.card.specs.Answers.{Said, refused}
-use Rattle.card.specs.Device.{exchange, at_most, moves}
+use Rattle.std.specs.Prelude.{Ok, Err}
+use Rattle.card.specs.Device.{Reply, exchange, at_most, moves}
+use Rattle.card.specs.declared.DeviceError.TheVariants.{Interrupted, Error}
 use Rattle.card.specs.Limits.{length_refusal}
-use Rattle.card.specs.declared.Reply.{Reply}
-use Rattle.card.specs.declared.Reply.TheVariants.{Accept, Interrupted, Error}
 use Rattle.card.proofs.Replies.{exchange_most, moves_most}
 use Rattle.reader.specs.declared.State.{State}
 use Rattle.reader.specs.World.{World, Fetched, Called, Reading, world}
@@ -158,9 +158,8 @@ filled_kept left stock w l =
 
 after_kept : (stock : List ℕ) (r : Reply) (calls : ℕ) (w : World) (on : Fetched) → Ledger stock w → Ledger stock on.world → Ledger stock (after_more r calls w on).world
 unfolding after_more
-after_kept stock (Accept n) calls w on l o = pick_holds (λ (f : Fetched). Ledger stock f.world) (eqb n 0) _ _ (λ e. l) (λ e. o)
-after_kept stock Interrupted calls w on l o = l
-after_kept stock (Error code) calls w on l o = l
+after_kept stock (Ok n) calls w on l o = pick_holds (λ (f : Fetched). Ledger stock f.world) (eqb n 0) _ _ (λ e. l) (λ e. o)
+after_kept stock (Err e) calls w on l o = l
 
 turn_kept : (left stock : List ℕ) (n calls : ℕ) (w : World) (on : World → Fetched) → Ledger stock w → ((v : World) → Ledger stock v → Ledger stock (on v).world) → Ledger stock (peek_turn left stock n calls w on).world
 unfolding peek_turn
@@ -188,13 +187,9 @@ pub record Hands (stock d : List ℕ) (st : State) (r : Reading) : Type 0 where
   pub ledger : Ledger stock r.called.world
 
 count_handed : (r : Reply) → count_of (handed r) ≡ moves r
-count_handed (Accept n) = refl
-count_handed Interrupted = refl
-count_handed (Error code) = refl
-
--- a paste of the same bytes
-put_same : (d s t : List ℕ) (at n : ℕ) → take n s ≡ take n t → put d at s n ≡ put d at t n
-put_same d s t at n e = opened d at s n ∙ ap (λ (l : List ℕ). take at d ++ l ++ drop (at + n) d) e ∙ sym (opened d at t n)
+count_handed (Ok n) = refl
+count_handed (Err Interrupted) = refl
+count_handed (Err (Error code)) = refl
 
 -- fewer of the same bytes
 take_fewer : (m n : ℕ) (s t : List ℕ) → m ≤ n → take n s ≡ take n t → take m s ≡ take m t
@@ -266,7 +261,7 @@ copied_hands stock d st f k =
     record {
       room = rw n most;
       there = rw (n, ← k.stays) (omega (arith, few, l.taken_in, l.behind, l.pos_in));
-      bytes = rw n (put_same d _ _ 0 (moves r) same);
+      bytes = rw n (put_same d 0 _ _ (moves r) same);
       onward = rw (n, ← k.stays) (place_on v.state.pos v.state.filled v.state.taken (moves r) few l.pos_in l.behind);
       ledger = consumed stock v.storage v.state (moves r) l;
     }

@@ -1,6 +1,5 @@
--- Lemmas that the functions' proofs cite: `Sizes` and `Seeks` of signed offsets, `Buffers` of the buffer's calls, `Refusals`
+-- Lemmas that the functions' proofs cite: `Seeks` of signed offsets, `Buffers` of the buffer's calls, `Refusals`
 -- of what a number tells, `Peeks` of the loop of `peek`, `Readings` of the ways through `read`.
-pub mod Sizes
 pub mod Buffers
 pub mod Refusals
 pub mod Seeks

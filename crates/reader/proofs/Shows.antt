@@ -12,14 +12,14 @@ use Rattle.laws.proofs.Picks.{pick_holds}
 use Rattle.laws.specs.Pick.{pick}
 use Rattle.laws.proofs.Puts.{length-put}
 use Rattle.card.specs.Answers.{ok, refused}
-use Rattle.card.specs.Device.{exchange, moves}
-use Rattle.card.specs.declared.Reply.{Reply}
-use Rattle.card.specs.declared.Reply.TheVariants.{Accept, Interrupted, Error}
+use Rattle.std.specs.Prelude.{Ok, Err}
+use Rattle.card.specs.Device.{Reply, accept, error, exchange, moves}
+use Rattle.card.specs.declared.DeviceError.TheVariants.{Interrupted, Error}
 use Rattle.card.proofs.Replies.{exchange_most}
-use Rattle.reader.specs.World.{World, Fetched, Fit}
+use Rattle.reader.specs.World.{World, Fetched}
 use Rattle.reader.specs.Buffer.{count, shown, backshift, added, read_more}
 use Rattle.reader.specs.Reader.{handed, handed_up, refusal, unless, shifted_back, after_more, peek_turn, peek_loop, peek_refusal, peek}
-use Rattle.reader.proofs.Refusals.{fit}
+use Rattle.reader.proofs.Refusals.{unrefused_fit}
 
 -- pos..filled lies in the storage
 pub record Inside (w : World) : Type 0 where
@@ -65,20 +65,19 @@ more_count left stock w i = omega (arith, i.pos_in)
 -- what `peek` for n ends with: a count is that of the bytes it shows
 record Ends (n : ℕ) (f : Fetched) : Type 0 where
   pub inside : Inside f.world
-  pub told : (k : ℕ) → f.reply ≡ Accept k → k ≡ min n (count f.world.state)
+  pub told : (k : ℕ) → f.reply ≡ accept k → k ≡ min n (count f.world.state)
 
-same_count : (j k : ℕ) → Accept j ≡ Accept k → j ≡ k
+same_count : (j k : ℕ) → accept j ≡ accept k → j ≡ k
 same_count j k e = cc
 
-after_ends : (n : ℕ) (r : Reply) (calls : ℕ) (v : World) (on : Fetched) → Inside v → ((k : ℕ) → r ≡ Accept k → k ≡ 0 → count v.state < n) → Ends n on → Ends n (after_more r calls v on)
+after_ends : (n : ℕ) (r : Reply) (calls : ℕ) (v : World) (on : Fetched) → Inside v → ((k : ℕ) → r ≡ accept k → k ≡ 0 → count v.state < n) → Ends n on → Ends n (after_more r calls v on)
 unfolding after_more
-after_ends n (Accept j) calls v on i few o = by (eqb j 0) (λ e. eqb-true j 0 e)
+after_ends n (Ok j) calls v on i few o = by (eqb j 0) (λ e. eqb-true j 0 e)
   where
-    by : (b : Bool) → (b ≡ true → j ≡ 0) → Ends n (pick b (record { reply = Accept (count v.state); calls = calls; world = v }) on)
+    by : (b : Bool) → (b ≡ true → j ≡ 0) → Ends n (pick b (record { reply = accept (count v.state); calls = calls; world = v }) on)
     by true z = record { inside = i; told = λ k e. let q = same_count (count v.state) k e in let l = few j refl (z refl) in omega arith }
     by false z = o
-after_ends n Interrupted calls v on i few o = record { inside = i; told = λ k e. let z : ◌≡◌ {A = ℕ} 0 1 = cc in absurd (omega arith) }
-after_ends n (Error code) calls v on i few o = record { inside = i; told = λ k e. let z : ◌≡◌ {A = ℕ} 0 1 = cc in absurd (omega arith) }
+after_ends n (Err r) calls v on i few o = record { inside = i; told = λ k e. cc }
 
 turn_ends : (left stock : List ℕ) (n calls : ℕ) (w : World) (on : World → Fetched) → Inside w → ((v : World) → Inside v → Ends n (on v)) → Ends n (peek_turn left stock n calls w on)
 unfolding peek_turn
@@ -90,18 +89,18 @@ turn_ends left stock n calls w on i o = by (leb n (count w.state)) (λ e. leb-tr
     m : Inside (read_more left stock (shifted_back w)).world
     m = more_inside left stock (shifted_back w) s.inside
 
-    few : count w.state < n → (k : ℕ) → (read_more left stock (shifted_back w)).reply ≡ Accept k → k ≡ 0 → count (read_more left stock (shifted_back w)).world.state < n
+    few : count w.state < n → (k : ℕ) → (read_more left stock (shifted_back w)).reply ≡ accept k → k ≡ 0 → count (read_more left stock (shifted_back w)).world.state < n
     few h k e z =
         let none : moves (read_more left stock (shifted_back w)).reply ≡ 0 = ap moves e ∙ z in
         let c = more_count left stock (shifted_back w) s.inside in
         omega (arith, s.same)
 
-    by : (b : Bool) → (b ≡ true → n ≤ count w.state) → (b ≡ false → count w.state < n) → Ends n (pick b (record { reply = Accept n; calls = calls; world = w }) (after_more (read_more left stock (shifted_back w)).reply (calls + (read_more left stock (shifted_back w)).calls) (read_more left stock (shifted_back w)).world (on (read_more left stock (shifted_back w)).world)))
+    by : (b : Bool) → (b ≡ true → n ≤ count w.state) → (b ≡ false → count w.state < n) → Ends n (pick b (record { reply = accept n; calls = calls; world = w }) (after_more (read_more left stock (shifted_back w)).reply (calls + (read_more left stock (shifted_back w)).calls) (read_more left stock (shifted_back w)).world (on (read_more left stock (shifted_back w)).world)))
     by true h g = record { inside = i; told = λ k e. let q = same_count n k e in let l = h refl in omega arith }
     by false h g = after_ends n (read_more left stock (shifted_back w)).reply _ (read_more left stock (shifted_back w)).world _ m (few (g refl)) (o (read_more left stock (shifted_back w)).world m)
 
-failed_ends : (n calls : ℕ) (v : World) → Inside v → Ends n (record { reply = Error 0; calls = calls; world = v })
-failed_ends n calls v i = record { inside = i; told = λ k e. let z : ◌≡◌ {A = ℕ} 0 1 = cc in absurd (omega arith) }
+failed_ends : (n calls : ℕ) (v : World) → Inside v → Ends n (record { reply = error 0; calls = calls; world = v })
+failed_ends n calls v i = record { inside = i; told = λ k e. cc }
 
 loop_ends : (left stock : List ℕ) (n calls : ℕ) (w : World) → Inside w → Ends n (peek_loop left stock n calls w)
 unfolding peek_loop
@@ -113,14 +112,10 @@ unfolding shown
 length_shown n w i = simp (length-take, length-drop) (omega (arith, i.filled_in))
 
 -- the answer tells the reply
-ok_accept : (r : Reply) (k : ℕ) → handed r ≡ ok k → r ≡ Accept k
-ok_accept (Accept j) k e = cc
-ok_accept Interrupted k e = let z : ◌≡◌ {A = ℕ} 0 1 = cc in absurd (omega arith)
-ok_accept (Error code) k e = let z : ◌≡◌ {A = ℕ} 0 1 = cc in absurd (omega arith)
-
-unrefused_fit : (script stock : List ℕ) (w : World) (own : ℕ) → refusal script stock w own ≡ 0 → Fit script stock w
-unfolding refusal
-unrefused_fit script stock w own e = fit script stock w.storage w.state own _ refl e
+ok_accept : (r : Reply) (k : ℕ) → handed r ≡ ok k → r ≡ accept k
+ok_accept (Ok j) k e = cc
+ok_accept (Err Interrupted) k e = cc
+ok_accept (Err (Error code)) k e = cc
 
 -- what `peeked` hands out after `peek` is as long as `peek` answered
 pub peek_shows : (script stock : List ℕ) (n k : ℕ) (w : World) → (peek script stock n w).answer ≡ ok k → length (shown n (peek script stock n w).world) ≡ k
@@ -133,4 +128,4 @@ peek_shows script stock n k w e = by (eqb (refusal script stock w (peek_refusal 
         let i : Inside w = record { pos_in = f.pos_in; filled_in = f.filled_in } in
         let x = loop_ends (drop w.state.used script) stock n 0 w i in
         length_shown n _ x.inside ∙ sym (x.told k (ok_accept _ k q))
-    by false h q = let z : ◌≡◌ {A = ℕ} 0 1 = cc in absurd (omega arith)
+    by false h q = cc

@@ -3,8 +3,7 @@
 use Rattle.std.specs.Prelude.{ℕ, ◌+◌, ◌-◌, min, List, eqb, length, take, drop}
 use Rattle.laws.specs.Pick.{pick}
 use Rattle.laws.specs.Put.{put}
-use Rattle.card.specs.Device.{exchange, moves}
-use Rattle.card.specs.declared.Reply.TheVariants.{Accept}
+use Rattle.card.specs.Device.{accept, exchange, moves}
 use Rattle.card.specs.declared.Exchange.{Exchange}
 use Rattle.reader.specs.declared.State.{State}
 use Rattle.reader.specs.World.{World, Fetched, world}
@@ -73,4 +72,4 @@ unfoldable pub fill_buf : List ℕ → List ℕ → World → Fetched
 fill_buf left stock w =
     pick (eqb w.state.pos w.state.filled)
     (read_more left stock (world w.storage (discard w.state)))
-    (record { reply = Accept (count w.state); calls = 0; world = w })
+    (record { reply = accept (count w.state); calls = 0; world = w })

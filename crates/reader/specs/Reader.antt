@@ -1,13 +1,11 @@
 -- Document 01's module 2: the reader. Each call works on the script, the stock and a world.
 -- Assumes nothing.
-use Rattle.std.specs.Prelude.{ℕ, suc, ◌+◌, ◌-◌, min, ◌&&◌, List, [], ◌∷◌, leb, ltb, eqb, ℤ, pos, negsuc, length, drop}
+use Rattle.std.specs.Prelude.{ℕ, suc, ◌+◌, ◌-◌, min, ◌&&◌, List, [], ◌∷◌, leb, ltb, eqb, ℤ, pos, negsuc, length, drop, Ok, Err}
 use Rattle.laws.specs.Pick.{pick}
 use Rattle.laws.specs.Put.{put}
-use Rattle.card.specs.Answers.{Said, ok, done, interrupted, error, refused}
-use Rattle.card.specs.Device.{at_most, exchange, moves}
+use Rattle.card.specs.Answers.{Said, ok, done, refused, failed, failure_by}
+use Rattle.card.specs.Device.{Reply, accept, error, at_most, exchange, moves}
 use Rattle.card.specs.Limits.{refusal_of, length_refusal}
-use Rattle.card.specs.declared.Reply.{Reply}
-use Rattle.card.specs.declared.Reply.TheVariants.{Accept, Interrupted, Error}
 use Rattle.reader.specs.declared.State.{State}
 use Rattle.reader.specs.World.{World, Fetched, Called, Reading, world}
 use Rattle.reader.specs.Buffer as Buffer
@@ -15,9 +13,8 @@ use Rattle.reader.specs.Buffer.{count}
 
 -- what the device said is handed up as the answer
 abbrev pub handed : Reply → Said
-handed (Accept n) = ok n
-handed Interrupted = interrupted
-handed (Error code) = error code
+handed (Ok n) = ok n
+handed (Err e) = failed (failure_by e)
 
 abbrev pub handed_up : Fetched → Called
 handed_up f = record { answer = handed f.reply; calls = f.calls; world = f.world }
@@ -79,7 +76,7 @@ copied destination f =
 
 -- what a fill hands up where bytes are buffered: their count, and nothing changes
 abbrev pub buffered : World → Fetched
-buffered w = record { reply = Accept (count w.state); calls = 0; world = w }
+buffered w = record { reply = accept (count w.state); calls = 0; world = w }
 
 -- `read` goes straight to the device when pos = filled and the destination is at least the capacity. Otherwise it
 -- fills, then copies
@@ -108,23 +105,22 @@ shifted_back w = pick (ltb 0 w.state.pos) (Buffer.backshift w) w
 -- what comes after more was read: a count of 0 means end of file and it answers all that is buffered; another goes on;
 -- an error or interrupted stops it with the shift and earlier reads kept
 unfoldable pub after_more : Reply → ℕ → World → Fetched → Fetched
-after_more (Accept n) calls w on =
-    pick (eqb n 0) (record { reply = Accept (count w.state); calls = calls; world = w }) on
-after_more Interrupted calls w on = record { reply = Interrupted; calls = calls; world = w }
-after_more (Error code) calls w on = record { reply = Error code; calls = calls; world = w }
+after_more (Ok n) calls w on =
+    pick (eqb n 0) (record { reply = accept (count w.state); calls = calls; world = w }) on
+after_more (Err e) calls w on = record { reply = Err e; calls = calls; world = w }
 
 -- One turn, when these replies are left and `calls` device calls were made: with n bytes buffered it ends, with fewer it
 -- shifts back and reads more, and `on` is how it goes on from there
 unfoldable pub peek_turn : List ℕ → List ℕ → ℕ → ℕ → World → (World → Fetched) → Fetched
 peek_turn left stock n calls w on =
     pick (leb n (count w.state))
-    (record { reply = Accept n; calls = calls; world = w })
+    (record { reply = accept n; calls = calls; world = w })
     (let f = Buffer.read_more left stock (shifted_back w) in
     after_more f.reply (calls + f.calls) f.world (on f.world))
 
 -- While fewer than n are buffered. Past the script's end the device fails, so that turn is the last
 unfoldable pub peek_loop : List ℕ → List ℕ → ℕ → ℕ → World → Fetched
-peek_loop [] stock n calls w = peek_turn [] stock n calls w (λ v. record { reply = Error 0; calls = calls + 1; world = v })
+peek_loop [] stock n calls w = peek_turn [] stock n calls w (λ v. record { reply = error 0; calls = calls + 1; world = v })
 peek_loop (r ∷ rest) stock n calls w = peek_turn (r ∷ rest) stock n calls w (λ v. peek_loop rest stock n (calls + 1) v)
 
 -- `peek`, unless it is refused. What it answers is shown by the part `Buffer.shown n` of the storage that it leaves

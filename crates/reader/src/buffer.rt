@@ -1,96 +1,57 @@
-// The buffer of the reader. These functions are the reader's own: they refuse nothing, and ask of
-// their callers what a refusal would have caught.
+// The buffer of the reader. These steps are the reader's own: they refuse nothing, and ask of
+// their callers what a refusal would have caught (`Fit`), and that no device call was made yet, from
+// where the definitions count. A type for that would have to be proved again wherever the state
+// changes, also where a call fails.
 ghost use Rattle.std.specs.Prelude.{◌≡◌, ◌≤◌, length, drop};
-ghost use Rattle.reader.specs.World.{Fit, world, fetched};
-ghost use Rattle.reader.specs.Buffer.{consume, unconsume, discard, backshift, read_more, fill_buf};
+ghost use Rattle.reader.specs.World.{Fit, Lent, world_of, fetched, since};
+ghost use Rattle.reader.specs.Buffer.{backshift, read_more, fill_buf};
 
-use crate::{Fetch, State};
+use crate::BufReader;
 use card::{Reply, bytes, device};
 
-pub(crate) fn discard_buffer(state: State) -> State
-    ensures { result ≡ discard state }
-{
-    State {
-        pos: 0,
-        filled: 0,
-        taken: state.taken,
-        used: state.used,
+impl BufReader<'_> {
+    // What was consumed leaves the storage.
+    pub(crate) fn backshift(&mut self)
+        requires { self.old.state.filled ≤ length self.old.storage.now }
+        ensures lent { Lent self.old self.new }
+        ensures calls { self.new.calls ≡ self.old.calls }
+        ensures shifted { world_of self.new ≡ backshift (world_of self.old) }
+    {
+        bytes::shift(self.storage, self.state.pos, self.state.filled);
+        self.state.filled = self.state.count();
+        self.state.pos = 0;
     }
-}
 
-// The least is taken of what is left, so that no sum can overflow.
-pub(crate) fn consume(state: State, amt: usize) -> State
-    ensures { result ≡ consume amt state }
-{
-    let more = bytes::least(amt, bytes::left(state.filled, state.pos));
-    State {
-        pos: state.pos + more,
-        filled: state.filled,
-        taken: state.taken,
-        used: state.used,
+    // One device read behind what is filled.
+    pub(crate) fn read_more(&mut self) -> Reply
+        requires fit { Fit self.old.script.now self.old.stock.now (world_of self.old) }
+        requires few { self.old.calls ≤ self.old.state.used }
+        ensures lent { Lent self.old self.new }
+        ensures more { fetched result self.new ≡ since self.old.calls (read_more (drop self.old.state.used self.old.script.now) self.old.stock.now (world_of self.old)) }
+    {
+        let filled = self.state.filled;
+        let taken = self.state.taken;
+        let room = &mut self.storage[filled..];
+        let e = device::read(self.script, self.state.used, room, self.stock, taken);
+        let n = device::moved(e.reply);
+        self.calls += 1;
+        self.state.filled = filled + n;
+        self.state.taken = taken + n;
+        self.state.used = e.used;
+        e.reply
     }
-}
 
-pub(crate) fn unconsume(state: State, amt: usize) -> State
-    ensures { result ≡ unconsume amt state }
-{
-    State {
-        pos: bytes::left(state.pos, amt),
-        filled: state.filled,
-        taken: state.taken,
-        used: state.used,
-    }
-}
-
-// What was consumed leaves the storage.
-pub(crate) fn backshift(storage: &mut [u8], state: State) -> State
-    requires { state.filled ≤ length storage.old }
-    ensures { world storage.new result ≡ backshift (world storage.old state) }
-{
-    let pos = state.pos;
-    let filled = state.filled;
-    bytes::shift(storage, pos, filled);
-    State {
-        pos: 0,
-        filled: bytes::left(filled, pos),
-        taken: state.taken,
-        used: state.used,
-    }
-}
-
-// One device read behind what is filled.
-pub(crate) fn read_more(storage: &mut [u8], script: &[u32], stock: &[u8], state: State) -> Fetch
-    requires { Fit script.now stock.now (world storage.old state) }
-    ensures { fetched result storage.new ≡ read_more (drop state.used script.now) stock.now (world storage.old state) }
-{
-    let filled = state.filled;
-    let taken = state.taken;
-    let e = device::read(script, state.used, &mut storage[filled..], stock, taken);
-    let reply = e.reply;
-    let n = device::moved(reply);
-    Fetch {
-        reply,
-        calls: 1,
-        state: State {
-            pos: state.pos,
-            filled: filled + n,
-            taken: taken + n,
-            used: e.used,
-        },
-    }
-}
-
-// The device is asked only when nothing is buffered, and then for a whole storage.
-pub(crate) fn fill_buf(storage: &mut [u8], script: &[u32], stock: &[u8], state: State) -> Fetch
-    requires { Fit script.now stock.now (world storage.old state) }
-    ensures { fetched result storage.new ≡ fill_buf (drop state.used script.now) stock.now (world storage.old state) }
-{
-    if state.pos == state.filled {
-        return read_more(storage, script, stock, discard_buffer(state));
-    }
-    Fetch {
-        reply: Reply::Accept(bytes::left(state.filled, state.pos)),
-        calls: 0,
-        state,
+    // The device is asked only when nothing is buffered, and then for a whole storage.
+    pub(crate) fn fill(&mut self) -> Reply
+        requires fit { Fit self.old.script.now self.old.stock.now (world_of self.old) }
+        requires none { self.old.calls ≡ 0 }
+        ensures lent { Lent self.old self.new }
+        ensures filled { fetched result self.new ≡ fill_buf (drop self.old.state.used self.old.script.now) self.old.stock.now (world_of self.old) }
+    {
+        if self.state.pos == self.state.filled {
+            self.state = self.state.discarded();
+            return self.read_more();
+        }
+        Ok(self.state.count())
     }
 }

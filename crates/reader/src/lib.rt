@@ -1,20 +1,22 @@
 // The buffered reader of document 01, modules 1 and 2, on the reading side of the scripted card.
-// Every public function is total: what a call refuses it refuses by number, and its promise says
-// the answer, the device calls, the state and every lent byte on every input.
+// Every public call is total: what it refuses it refuses by number, and its promise says the
+// answer, the device calls, the state and every lent byte on every input.
 #![tactic(auto)]
 
 mod buffer;
+mod numbers;
 
-ghost use Rattle.std.specs.Prelude.{◌≡◌, List, ℕ, ◌≤◌, nat_abs, length, drop};
-ghost use Rattle.card.specs.Answers.{said};
-ghost use Rattle.card.specs.Device.{at_most};
-ghost use Rattle.card.specs.Limits.{refusal_of};
-ghost use Rattle.reader.specs.World.{Fit, world, fetched, called, reading};
-ghost use Rattle.reader.specs.Buffer.{new, shown, count, read_more};
-ghost use Rattle.reader.specs.Reader.{handed, handed_up, buffered, seek_refusal, sought, peek_refusal, shifted_back, peek_loop, direct, copied, fill_buf, consume, seek_relative, peek, read};
+ghost use Rattle.std.specs.Prelude.{◌≡◌, ◌+◌, ◌≤◌, length, drop};
+ghost use Rattle.laws.specs.Put.{put};
+ghost use Rattle.card.specs.Answers.{ok, said_count, said_done};
+ghost use Rattle.card.specs.Limits.{refusal_by};
+ghost use Rattle.reader.specs.World.{Fit, Lent, world_of, sizes_of, fetched, called, reading};
+ghost use Rattle.reader.specs.Buffer.{shown, count};
+ghost use Rattle.reader.specs.Reader.{handed, buffered, refusal, peek_refusal, shifted_back, peek_loop, direct, copied, fill_buf, consume, seek_relative, peek, read};
 ghost use Rattle.reader.specs.Buffer as Buffer;
 
-use card::{Answer, Reply, bytes, device, limits};
+use card::limits::{Refusal, check_length};
+use card::{Failure, Reply, device};
 
 // What a reader knows between calls: its place in the storage and how much of that is filled,
 // the bytes taken of the stock, and the replies used of the script.
@@ -26,370 +28,219 @@ pub struct State {
     pub used: usize,
 }
 
-// A call of the reader: its answer, the device calls that it made, and the state after it.
+// The sizes of what is lent to a reader.
 #[derive(Clone, Copy)]
-pub struct Answered {
-    pub answer: Answer,
-    pub calls: usize,
+pub struct Sizes {
+    pub capacity: usize,
+    pub script: usize,
+    pub stock: usize,
+}
+
+// A reader over what is lent to it. `calls` are the device calls of the last call.
+#[derive(Drop)]
+pub struct BufReader<'a> {
     pub state: State,
+    pub storage: &'a mut [u8],
+    pub script: &'a [u32],
+    pub stock: &'a [u8],
+    pub calls: usize,
 }
 
-// A call of the buffer: what it hands up, the device calls that it made, and the state after it.
-#[derive(Clone, Copy)]
-struct Fetch {
-    reply: Reply,
-    calls: usize,
-    state: State,
-}
-
-pub fn new() -> State
-    ensures { result ≡ new }
-{
-    State {
-        pos: 0,
-        filled: 0,
-        taken: 0,
-        used: 0,
-    }
-}
-
-// What `peek` for n shows after it answered: the part of the storage itself, from pos, of n or
-// fewer bytes.
-pub fn peeked(storage: &[u8], state: State, n: usize) -> &[u8]
-    ensures { result.now ≡ shown n (world storage.now state) }
-{
-    let from = bytes::least(state.pos, storage.len());
-    let held = bytes::least(n, bytes::left(state.filled, state.pos));
-    let to = from + bytes::least(held, storage.len() - from);
-    &storage[from..to]
-}
-
-// All that is buffered, as a part of the storage.
-pub fn buffered(storage: &[u8], state: State) -> &[u8]
-    ensures { result.now ≡ shown (count state) (world storage.now state) }
-{
-    peeked(storage, state, bytes::left(state.filled, state.pos))
-}
-
-// Which refusal applies, 0 for none.
-fn refusal(capacity: usize, script: &[u32], stock: &[u8], state: State, own: u32) -> u32
-    ensures { result ≡ refusal_of capacity (length script.now) (length stock.now) state.pos state.filled state.taken state.used own }
-{
-    limits::refusal(
-        capacity,
-        script.len(),
-        stock.len(),
-        state.pos,
-        state.filled,
-        state.taken,
-        state.used,
-        own,
-    )
-}
-
-fn answer_of(reply: Reply) -> Answer
-    ensures { said result ≡ handed reply }
-{
-    match reply {
-        Reply::Accept(n) => Answer::Ok(n),
-        Reply::Interrupted => Answer::Interrupted,
-        Reply::Error(code) => Answer::Error(code),
-    }
-}
-
-fn handed_up(f: Fetch) -> Answered
-    ensures { (x : List ℕ) → called result x ≡ handed_up (fetched f x) }
-{
-    let reply = f.reply;
-    let state = f.state;
-    Answered {
-        answer: answer_of(reply),
-        calls: f.calls,
-        state,
-    }
-}
-
-pub fn fill_buf(storage: &mut [u8], script: &[u32], stock: &[u8], state: State) -> Answered
-    ensures { called result storage.new ≡ fill_buf script.now stock.now (world storage.old state) }
-{
-    let number = refusal(storage.len(), script, stock, state, 0);
-    if number != 0 {
-        return Answered {
-            answer: Answer::Refused(number),
-            calls: 0,
-            state,
-        };
-    }
-    handed_up(buffer::fill_buf(storage, script, stock, state))
-}
-
-pub fn consume(storage: &[u8], script: &[u32], stock: &[u8], state: State, amt: usize) -> Answered
-    ensures { called result storage.now ≡ consume script.now stock.now amt (world storage.now state) }
-{
-    let number = refusal(storage.len(), script, stock, state, 0);
-    if number != 0 {
-        return Answered {
-            answer: Answer::Refused(number),
-            calls: 0,
-            state,
-        };
-    }
-    Answered {
-        answer: Answer::Done,
-        calls: 0,
-        state: buffer::consume(state, amt),
-    }
-}
-
-// Straight from the device. The storage has no part in it.
-fn read_direct(script: &[u32], stock: &[u8], state: State, destination: &mut [u8]) -> Answered
-    requires { state.taken ≤ length stock.now }
-    ensures { (x : List ℕ) → reading result x destination.new ≡ direct script.now stock.now destination.old (world x state) }
-{
-    let taken = state.taken;
-    let e = device::read(script, state.used, destination, stock, taken);
-    let reply = e.reply;
-    let n = device::moved(reply);
-    Answered {
-        answer: answer_of(reply),
-        calls: 1,
-        state: State {
-            pos: 0,
-            filled: 0,
-            taken: taken + n,
-            used: e.used,
-        },
-    }
-}
-
-// A reply cut to what there is room for.
-fn cut(reply: Reply, most: usize) -> Reply
-    ensures { result ≡ at_most most reply }
-{
-    match reply {
-        Reply::Accept(n) => Reply::Accept(bytes::least(n, most)),
-        Reply::Interrupted => Reply::Interrupted,
-        Reply::Error(code) => Reply::Error(code),
-    }
-}
-
-// Through the buffer. A fill that failed leaves nothing to copy.
-fn read_copied(
-    storage: &mut [u8],
-    script: &[u32],
-    stock: &[u8],
-    state: State,
-    destination: &mut [u8],
-) -> Answered
-    requires { Fit script.now stock.now (world storage.old state) }
-    ensures { reading result storage.new destination.new ≡ copied destination.old (Buffer.fill_buf (drop state.used script.now) stock.now (world storage.old state)) }
-{
-    let f = buffer::fill_buf(storage, script, stock, state);
-    let given = f.reply;
-    let reply = cut(given, destination.len());
-    let n = device::moved(reply);
-    let at = f.state;
-    let pos = at.pos;
-    bytes::copy(destination, 0, &storage[pos..], n);
-    Answered {
-        answer: answer_of(reply),
-        calls: f.calls,
-        state: buffer::consume(at, n),
-    }
-}
-
-// What is buffered, as much of it as finds room. The usual way through `read`, so it has no part in
-// the calls that may meet the device.
-fn read_buffered(storage: &[u8], state: State, destination: &mut [u8]) -> Answered
-    requires { (state.pos ≤ state.filled) × (state.filled ≤ length storage.now) }
-    ensures { reading result storage.now destination.new ≡ copied destination.old (buffered (world storage.now state)) }
-{
-    let pos = state.pos;
-    let count = bytes::least(state.filled - pos, destination.len());
-    bytes::copy(destination, 0, &storage[pos..], count);
-    Answered {
-        answer: Answer::Ok(count),
-        calls: 0,
-        state: State {
-            pos: pos + count,
-            filled: state.filled,
-            taken: state.taken,
-            used: state.used,
-        },
-    }
-}
-
-pub fn read(
-    storage: &mut [u8],
-    script: &[u32],
-    stock: &[u8],
-    state: State,
-    destination: &mut [u8],
-) -> Answered
-    ensures { reading result storage.new destination.new ≡ read script.now stock.now destination.old (world storage.old state) }
-{
-    let own = limits::length_refusal(destination.len());
-    let number = refusal(storage.len(), script, stock, state, own);
-    if number != 0 {
-        return Answered {
-            answer: Answer::Refused(number),
-            calls: 0,
-            state,
-        };
-    }
-    if state.pos < state.filled {
-        return read_buffered(storage, state, destination);
-    }
-    if destination.len() < storage.len() {
-        return read_copied(storage, script, stock, state, destination);
-    }
-    read_direct(script, stock, state, destination)
-}
-
-// The storage shifted back where something was consumed, and one device read behind it.
-fn shift_and_read(storage: &mut [u8], script: &[u32], stock: &[u8], state: State) -> Fetch
-    requires { Fit script.now stock.now (world storage.old state) }
-    ensures { fetched result storage.new ≡ read_more (drop state.used script.now) stock.now (shifted_back (world storage.old state)) }
-{
-    if 0 < state.pos {
-        let shifted = buffer::backshift(storage, state);
-        return buffer::read_more(storage, script, stock, shifted);
-    }
-    buffer::read_more(storage, script, stock, state)
-}
-
-// Reads on until n bytes are buffered, the device has no more, or it fails.
-fn peek_loop(storage: &mut [u8], script: &[u32], stock: &[u8], state: State, n: usize) -> Fetch
-    requires { Fit script.now stock.now (world storage.old state) }
-    ensures { fetched result storage.new ≡ peek_loop (drop state.used script.now) stock.now n 0 (world storage.old state) }
-{
-    let mut at = state;
-    let mut calls = 0;
-    while bytes::left(at.filled, at.pos) < n {
-        let f = shift_and_read(storage, script, stock, at);
-        let reply = f.reply;
-        at = f.state;
-        calls += 1;
-        match reply {
-            Reply::Accept(count) => {
-                if count == 0 {
-                    return Fetch {
-                        reply: Reply::Accept(bytes::left(at.filled, at.pos)),
-                        calls,
-                        state: at,
-                    };
-                }
-            }
-            Reply::Interrupted => {
-                return Fetch {
-                    reply: Reply::Interrupted,
-                    calls,
-                    state: at,
-                };
-            }
-            Reply::Error(code) => {
-                return Fetch {
-                    reply: Reply::Error(code),
-                    calls,
-                    state: at,
-                };
-            }
-        }
-    }
-    Fetch {
-        reply: Reply::Accept(n),
-        calls,
-        state: at,
-    }
-}
-
-fn peek_refusal(capacity: usize, n: usize) -> u32
-    ensures { result ≡ peek_refusal capacity n }
+// Alike to `limits::check_length` but for limit and refusal: with both as parameters no shorter.
+fn check_peek(capacity: usize, n: usize) -> Result<(), Refusal>
+    ensures { refusal_by result ≡ peek_refusal capacity n }
 {
     if capacity < n {
-        return 3;
+        return Err(Refusal::Peek);
     }
-    0
+    Ok(())
 }
 
-// What it shows is `peeked`'s part of the storage.
-pub fn peek(storage: &mut [u8], script: &[u32], stock: &[u8], state: State, n: usize) -> Answered
-    ensures { called result storage.new ≡ peek script.now stock.now n (world storage.old state) }
-{
-    let own = peek_refusal(storage.len(), n);
-    let number = refusal(storage.len(), script, stock, state, own);
-    if number != 0 {
-        return Answered {
-            answer: Answer::Refused(number),
-            calls: 0,
+impl<'a> BufReader<'a> {
+    // A reader with this state, over what is lent.
+    pub fn new(
+        state: State,
+        storage: &'a mut [u8],
+        script: &'a [u32],
+        stock: &'a [u8],
+    ) -> BufReader<'a>
+        ensures { result ≡ record { state = state; storage = storage.entry; script = script.entry; stock = stock.entry; calls = 0 } }
+    {
+        BufReader {
             state,
-        };
-    }
-    handed_up(peek_loop(storage, script, stock, state, n))
-}
-
-// The size of an offset. The lowest value's size fits no i64, so one is added before the sign is
-// changed and given back after the cast.
-fn magnitude(offset: i64) -> usize
-    ensures { result ≡ nat_abs offset }
-{
-    if offset < 0 {
-        return ((0 - (offset + 1)) as usize) + 1;
-    }
-    offset as usize
-}
-
-// Whether pos + offset is at most filled is asked without the sum, which could overflow.
-fn seek_refusal(state: State, offset: i64) -> u32
-    ensures { result ≡ seek_refusal offset state }
-{
-    let size = magnitude(offset);
-    if offset < 0 {
-        if size <= state.pos {
-            return 0;
+            storage,
+            script,
+            stock,
+            calls: 0,
         }
-        return 4;
     }
-    if state.filled < size {
-        return 4;
-    }
-    if state.filled - size < state.pos {
-        return 4;
-    }
-    0
 }
 
-fn seek_to(state: State, offset: i64) -> State
-    ensures { result ≡ sought offset state }
-{
-    let size = magnitude(offset);
-    if offset < 0 {
-        return buffer::unconsume(state, size);
+impl BufReader<'_> {
+    fn sizes(&self) -> Sizes
+        ensures { result ≡ sizes_of self.now.storage.now self.now.script.now self.now.stock.now }
+    {
+        Sizes::of(self.storage, self.script, self.stock)
     }
-    buffer::consume(state, size)
-}
 
-pub fn seek_relative(
-    storage: &[u8],
-    script: &[u32],
-    stock: &[u8],
-    state: State,
-    offset: i64,
-) -> Answered
-    ensures { called result storage.now ≡ seek_relative script.now stock.now offset (world storage.now state) }
-{
-    let own = seek_refusal(state, offset);
-    let number = refusal(storage.len(), script, stock, state, own);
-    if number != 0 {
-        return Answered {
-            answer: Answer::Refused(number),
-            calls: 0,
-            state,
+    // What `peek` for n shows after it answered.
+    pub fn peeked(&self, n: usize) -> &[u8]
+        ensures { result.now ≡ shown n (world_of self.now) }
+    {
+        self.state.peeked(self.storage, n)
+    }
+
+    // All that is buffered.
+    pub fn buffered(&self) -> &[u8]
+        ensures { result.now ≡ shown (count self.now.state) (world_of self.now) }
+    {
+        self.state.buffered(self.storage)
+    }
+
+    // Whether the state fits what is lent, and that is within the limits.
+    fn check(&self) -> Result<(), Refusal>
+        ensures { refusal_by result ≡ refusal self.now.script.now self.now.stock.now (world_of self.now) 0 }
+    {
+        self.state.check(self.sizes())
+    }
+
+    pub fn fill_buf(&mut self) -> Result<usize, Failure>
+        ensures lent { Lent self.old self.new }
+        ensures call { called (said_count result) self.new ≡ fill_buf self.old.script.now self.old.stock.now (world_of self.old) }
+    {
+        self.calls = 0;
+        self.check()?;
+        Ok(self.fill()?)
+    }
+
+    // This and `seek_relative` are one call of the state's: a closure for it would be no plainer.
+    pub fn consume(&mut self, amt: usize) -> Result<(), Failure>
+        ensures lent { Lent self.old self.new }
+        ensures call { called (said_done result) self.new ≡ consume self.old.script.now self.old.stock.now amt (world_of self.old) }
+    {
+        self.calls = 0;
+        self.state = self.state.consume(self.sizes(), amt)?;
+        Ok(())
+    }
+
+    // Straight from the device. The storage has no part in it.
+    fn read_direct(&mut self, destination: &mut [u8]) -> Reply
+        requires taken { self.old.state.taken ≤ length self.old.stock.now }
+        requires none { self.old.calls ≡ 0 }
+        ensures lent { Lent self.old self.new }
+        ensures call { reading (handed result) self.new destination.new ≡ direct self.old.script.now self.old.stock.now destination.old (world_of self.old) }
+    {
+        let State { taken, used, .. } = self.state;
+        let e = device::read(self.script, used, destination, self.stock, taken);
+        self.calls += 1;
+        self.state = State {
+            pos: 0,
+            filled: 0,
+            taken: taken + device::moved(e.reply),
+            used: e.used,
         };
+        e.reply
     }
-    Answered {
-        answer: Answer::Done,
-        calls: 0,
-        state: seek_to(state, offset),
+
+    // The first n bytes from pos on, copied to the front of the destination.
+    fn copy_out(&self, destination: &mut [u8], n: usize)
+        requires held { self.now.state.pos + n ≤ length self.now.storage.now }
+        requires room { n ≤ length destination.old }
+        ensures { destination.new ≡ put destination.old 0 (drop self.now.state.pos self.now.storage.now) n }
+    {
+        let pos = self.state.pos;
+        destination[..n].copy_from_slice(&self.storage[pos..pos + n]);
+    }
+
+    // Through the buffer. A fill that failed leaves nothing to copy.
+    fn read_copied(&mut self, destination: &mut [u8]) -> Reply
+        requires fit { Fit self.old.script.now self.old.stock.now (world_of self.old) }
+        requires none { self.old.calls ≡ 0 }
+        ensures lent { Lent self.old self.new }
+        ensures call { reading (handed result) self.new destination.new ≡ copied destination.old (Buffer.fill_buf (drop self.old.state.used self.old.script.now) self.old.stock.now (world_of self.old)) }
+    {
+        let n = self.fill()?.min(destination.len());
+        self.copy_out(destination, n);
+        self.state = self.state.consumed(n);
+        Ok(n)
+    }
+
+    // What is buffered, as much of it as finds room. The usual way through `read`, so it has no part
+    // in the calls that may meet the device.
+    fn read_buffered(&mut self, destination: &mut [u8]) -> usize
+        requires within { (self.old.state.pos ≤ self.old.state.filled) × (self.old.state.filled ≤ length self.old.storage.now) }
+        requires none { self.old.calls ≡ 0 }
+        ensures lent { Lent self.old self.new }
+        ensures call { reading (ok result) self.new destination.new ≡ copied destination.old (buffered (world_of self.old)) }
+    {
+        let State { pos, filled, .. } = self.state;
+        let n = (filled - pos).min(destination.len());
+        self.copy_out(destination, n);
+        self.state.pos = pos + n;
+        n
+    }
+
+    pub fn read(&mut self, destination: &mut [u8]) -> Result<usize, Failure>
+        ensures lent { Lent self.old self.new }
+        ensures call { reading (said_count result) self.new destination.new ≡ read self.old.script.now self.old.stock.now destination.old (world_of self.old) }
+    {
+        self.calls = 0;
+        self.check()?;
+        check_length(destination.len())?;
+        if self.state.pos < self.state.filled {
+            return Ok(self.read_buffered(destination));
+        }
+        if destination.len() < self.storage.len() {
+            return Ok(self.read_copied(destination)?);
+        }
+        Ok(self.read_direct(destination)?)
+    }
+
+    // The storage shifted back where something was consumed.
+    fn shift_back(&mut self)
+        requires { self.old.state.filled ≤ length self.old.storage.now }
+        ensures lent { Lent self.old self.new }
+        ensures calls { self.new.calls ≡ self.old.calls }
+        ensures shifted { world_of self.new ≡ shifted_back (world_of self.old) }
+    {
+        if 0 < self.state.pos {
+            self.backshift();
+        }
+    }
+
+    // Reads on until n bytes are buffered, the device has no more, or it fails.
+    fn peek_loop(&mut self, n: usize) -> Reply
+        requires fit { Fit self.old.script.now self.old.stock.now (world_of self.old) }
+        requires none { self.old.calls ≡ 0 }
+        ensures lent { Lent self.old self.new }
+        ensures peeked { fetched result self.new ≡ peek_loop (drop self.old.state.used self.old.script.now) self.old.stock.now n 0 (world_of self.old) }
+    {
+        while self.state.count() < n {
+            self.shift_back();
+            if self.read_more()? == 0 {
+                return Ok(self.state.count());
+            }
+        }
+        Ok(n)
+    }
+
+    // What it shows is `peeked`'s part of the storage.
+    pub fn peek(&mut self, n: usize) -> Result<usize, Failure>
+        ensures lent { Lent self.old self.new }
+        ensures call { called (said_count result) self.new ≡ peek self.old.script.now self.old.stock.now n (world_of self.old) }
+    {
+        self.calls = 0;
+        self.check()?;
+        check_peek(self.storage.len(), n)?;
+        Ok(self.peek_loop(n)?)
+    }
+
+    pub fn seek_relative(&mut self, offset: i64) -> Result<(), Failure>
+        ensures lent { Lent self.old self.new }
+        ensures call { called (said_done result) self.new ≡ seek_relative self.old.script.now self.old.stock.now offset (world_of self.old) }
+    {
+        self.calls = 0;
+        self.state = self.state.seek_relative(self.sizes(), offset)?;
+        Ok(())
     }
 }

@@ -16,7 +16,7 @@ use Rattle.writer.specs.Writer as Writer
 use Rattle.line.specs.Line.{lines_length, ends_line, completed, window, tail_kept, keep_tail, send_lines, line_write, line_write_call}
 use Rattle.reader.specs.Buffer as Buffer
 use Rattle.reader.specs.Reader as Reader
-use Rattle.numbers.specs.Number.{ended, groups_from, number_of, number, within, number_most}
+use Rattle.numbers.specs.Number.{ended, groups_from, number_of, number, within, number_most, length_most}
 use Rattle.trace.specs.declared.Header.{Header}
 use Rattle.trace.specs.Claims.{ok_at, error_at, claim_of, claim_at}
 use Rattle.trace.specs.Calls.{wrote, flushed, written, traced, write_at, call_at}
@@ -80,7 +80,7 @@ parts count card n = record { capacity = 4; count = count; first = 2; card = car
 
 -- THE STARRED ROWS
 pub starred : AllHold table
-unfolding put reply_of next takes at_most exchange refusal_of length_refusal and_then refusing send_from Flush.flush_buf Writer.device_write Writer.device_write_all Writer.placed Writer.readied Writer.cold Writer.written Writer.write Writer.write_all Writer.device_flush Writer.flush Writer.write_call Writer.write_all_call Writer.flush_call lines_length ends_line completed window tail_kept keep_tail send_lines line_write line_write_call Buffer.shown Buffer.backshift Buffer.added Buffer.read_more Buffer.fill_buf Reader.refusal Reader.unless Reader.direct Reader.copied Reader.read_unrefused Reader.read Reader.peek_refusal Reader.shifted_back Reader.after_more Reader.peek_turn Reader.peek_loop Reader.peek trace_of count_at calls_from card_at call_at write_at traced claim_at claim_of error_at ok_at number_most within number number_of groups_from ended
+unfolding put reply_of next takes at_most exchange refusal_of length_refusal and_then refusing send_from Flush.flush_buf Writer.device_write Writer.device_write_all Writer.placed Writer.readied Writer.cold Writer.written Writer.write Writer.write_all Writer.device_flush Writer.flush Writer.write_call Writer.write_all_call Writer.flush_call lines_length ends_line completed window tail_kept keep_tail send_lines line_write line_write_call Buffer.shown Buffer.backshift Buffer.added Buffer.read_more Buffer.fill_buf Reader.refusal Reader.unless Reader.direct Reader.copied Reader.read_unrefused Reader.read Reader.peek_refusal Reader.shifted_back Reader.after_more Reader.peek_turn Reader.peek_loop Reader.peek trace_of count_at calls_from card_at call_at write_at traced claim_at claim_of error_at ok_at length_most number_most within number number_of groups_from ended
 starred = (
   refl,
   (

@@ -5,7 +5,9 @@ use mathlib.Core.List.{List, [], ◌∷◌}
 use Prim.Native.Nat.{ℕ, ◌+◌, ◌≤◌, ◌<◌}
 use native.Mathlib.Omega.{arith}
 use lib.ListN.{length}
+use Rattle.std.specs.Prelude.{Result, Ok}
 use Rattle.card.specs.Answers.{Said}
+use Rattle.numbers.specs.declared.Fault.{Fault}
 use Rattle.trace.specs.Calls.{Told, wrote}
 use Rattle.trace.specs.Trace.{Parsed, trace, trace_of}
 use Rattle.judge.specs.declared.Verdict.{Verdict}
@@ -40,14 +42,14 @@ first_long C n said h l (WriteStep.direct x y z) = omega arith
 first_long C n said h l (WriteStep.stopped x y z w) = omega arith
 
 -- THE VERDICT of a row: what keeps the judge's promise is the row's
-pub says_possible : (bytes : List ℕ) (C : ℕ) (calls : List Told) (card : List ℕ) → Says bytes C calls card → Possible C calls card → (v : Verdict) → Judged (trace_of bytes) v → v ≡ possible
+pub says_possible : (bytes : List ℕ) (C : ℕ) (calls : List Told) (card : List ℕ) → Says bytes C calls card → Possible C calls card → (v : Result Verdict Fault) → Judged (trace_of bytes) v → v ≡ Ok possible
 unfolding Judged
 says_possible bytes C calls card s p v j =
     let k : Judged (trace s.header calls card) v = subst (λ (x : Parsed). Judged x v) s.is j in
-    ruling_same v possible (k.0.1 (subst (λ (n : ℕ). Possible n calls card) (sym s.capacity_is) p))
+    ruling_same v (Ok possible) (k.0.1 (subst (λ (n : ℕ). Possible n calls card) (sym s.capacity_is) p))
 
-pub says_impossible : (bytes : List ℕ) (C : ℕ) (calls : List Told) (card : List ℕ) → Says bytes C calls card → (Possible C calls card → ⊥) → (v : Verdict) → Judged (trace_of bytes) v → v ≡ impossible
+pub says_impossible : (bytes : List ℕ) (C : ℕ) (calls : List Told) (card : List ℕ) → Says bytes C calls card → (Possible C calls card → ⊥) → (v : Result Verdict Fault) → Judged (trace_of bytes) v → v ≡ Ok impossible
 unfolding Judged
 says_impossible bytes C calls card s n v j =
     let k : Judged (trace s.header calls card) v = subst (λ (x : Parsed). Judged x v) s.is j in
-    ruling_same v impossible (k.1.1 (λ p. n (subst (λ (m : ℕ). Possible m calls card) s.capacity_is p)))
+    ruling_same v (Ok impossible) (k.1.1 (λ p. n (subst (λ (m : ℕ). Possible m calls card) s.capacity_is p)))

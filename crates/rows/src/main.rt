@@ -1,5 +1,7 @@
 // Runs every row of the bench sheet through the public functions, and prints a line for each call:
-// the row's number, the call, and what it left. Bytes are in hex, no bytes are `-`.
+// the row's number, the call, and what it left. Bytes are in hex, no bytes are `-`. The handle and
+// the row's number are arguments: a struct of both would be made anew for each row, and taken apart in
+// each line.
 #![tactic(auto)]
 
 mod print;

@@ -1,53 +1,40 @@
-// What the lines are made of.
-use card::Answer;
-use std::io;
-use std::io::Write;
+// What the lines are made of. Crate `text` has the same words on a page of lent bytes, for the bench
+// program's lines; here they are `Display`, since `println!` prints the rows, and they check what the
+// calls answer without that crate.
+use card::{Answer, Failure};
+use std::fmt;
+use std::fmt::Display;
 
-pub(crate) fn word(rt: &HostRuntime, text: &[u8]) -> io::Result<()> {
-    rt.stdout().write_all(text)
-}
+// Bytes in hex; no bytes are `-`.
+#[derive(Clone, Copy)]
+pub(crate) struct Hex<'a>(pub(crate) &'a [u8]);
 
-pub(crate) fn number(rt: &HostRuntime, text: &[u8], n: usize) -> io::Result<()> {
-    word(rt, text)?;
-    print!(rt; "{n}")
-}
-
-// The start of a line: the row's number and the call's name.
-pub(crate) fn call(rt: &HostRuntime, row: usize, name: &[u8]) -> io::Result<()> {
-    number(rt, b"", row)?;
-    word(rt, b" ")?;
-    word(rt, name)
-}
-
-pub(crate) fn answer(rt: &HostRuntime, answer: Answer) -> io::Result<()> {
-    match answer {
-        Answer::Ok(n) => number(rt, b" ok ", n),
-        Answer::Done => word(rt, b" ok"),
-        Answer::Interrupted => word(rt, b" interrupted"),
-        Answer::Zero => word(rt, b" zero"),
-        Answer::Whole => word(rt, b" whole"),
-        Answer::Error(code) => number(rt, b" error ", code as usize),
-        Answer::Refused(refusal) => number(rt, b" refused ", refusal as usize),
-    }
-}
-
-// The first `count` of some bytes.
-pub(crate) fn bytes(rt: &HostRuntime, bytes: &[u8], count: usize) -> io::Result<()> {
-    if count == 0 {
-        return word(rt, b"-");
-    }
-    let mut i = 0;
-    while i < bytes.len() {
-        if count <= i {
-            return Ok(());
+impl Display for Hex<'_> {
+    fn fmt<W: fmt::Write>(&self, f: &mut fmt::Formatter<W>) -> fmt::Result {
+        if self.0.is_empty() {
+            return f.write_str("-");
         }
-        print!(rt; "{:02x}", bytes[i])?;
-        i += 1;
+        for byte in self.0 {
+            write!(f, "{byte:02x}")?;
+        }
+        Ok(())
     }
-    Ok(())
 }
 
-pub(crate) fn all(rt: &HostRuntime, text: &[u8], shown: &[u8]) -> io::Result<()> {
-    word(rt, text)?;
-    bytes(rt, shown, shown.len())
+// An answer's word, and its value after it.
+#[derive(Clone, Copy)]
+pub(crate) struct Said(pub(crate) Answer);
+
+impl Display for Said {
+    fn fmt<W: fmt::Write>(&self, f: &mut fmt::Formatter<W>) -> fmt::Result {
+        match self.0 {
+            Ok(Some(n)) => write!(f, "ok {n}"),
+            Ok(None) => f.write_str("ok"),
+            Err(Failure::Interrupted) => f.write_str("interrupted"),
+            Err(Failure::Zero) => f.write_str("zero"),
+            Err(Failure::Whole) => f.write_str("whole"),
+            Err(Failure::Error(code)) => write!(f, "error {code}"),
+            Err(Failure::Refused(refusal)) => write!(f, "refused {refusal}"),
+        }
+    }
 }

@@ -1,19 +1,18 @@
 // Rows 14 to 16: the judge. Capacity 4.
-use crate::print;
+use crate::print::Hex;
 use judge::Verdict;
 use std::io;
+use std::io::Write;
 
 // A line: the trace's bytes and the verdict on it.
 fn show(rt: &HostRuntime, row: usize, trace: &[u8]) -> io::Result<()> {
-    print::call(rt, row, b"judge")?;
-    let verdict = judge::judge(trace);
-    match verdict {
-        Verdict::Possible => print::word(rt, b" possible")?,
-        Verdict::Impossible => print::word(rt, b" impossible")?,
-        Verdict::Refused(place) => print::number(rt, b" refused 7 at ", place)?,
+    print!(rt; "{row} judge ")?;
+    match judge::judge(trace) {
+        Ok(Verdict::Possible) => print!(rt; "possible")?,
+        Ok(Verdict::Impossible) => print!(rt; "impossible")?,
+        Err(fault) => print!(rt; "refused 7 at {}", fault.place)?,
     }
-    print::all(rt, b" trace ", trace)?;
-    print::word(rt, b"\n")
+    println!(rt; " trace {}", Hex(trace))
 }
 
 // 14. write abc ok 3, card empty; card a. Then flush error 5: card ab or abc. Flush zero: ab; abc.

@@ -1,118 +1,100 @@
 // Rows 1 to 9: the buffered writer and the line writer. Capacity 4 unless said.
-use crate::print;
-use flushing::{Answered, State};
+use crate::print::{Hex, Said};
+use card::{Answer, counted, uncounted};
+use flushing::{BufWriter, State};
 use line::linewriter;
 use std::io;
+use std::io::Write;
 use writer::bufwriter;
+
+// What a row calls.
+enum Call<'a> {
+    Write(&'a [u8]),
+    WriteAll(&'a [u8]),
+    Flush,
+    LineWrite(&'a [u8]),
+}
 
 // A line: answer, device calls, the bytes held, the bytes out and the whole storage.
 fn show(
     rt: &HostRuntime,
     row: usize,
-    name: &[u8],
-    a: Answered,
-    storage: &[u8],
-    medium: &[u8],
+    name: &str,
+    answer: Answer,
+    w: &BufWriter<'_, '_>,
 ) -> io::Result<()> {
-    let answer = a.answer;
-    let state = a.state;
-    print::call(rt, row, name)?;
-    print::answer(rt, answer)?;
-    print::number(rt, b" calls ", a.calls)?;
-    print::all(rt, b" held ", bufwriter::buffer(state, storage))?;
-    print::word(rt, b" out ")?;
-    print::bytes(rt, medium, state.out)?;
-    print::all(rt, b" storage ", storage)?;
-    print::word(rt, b"\n")
+    let out = w.state.out.min(w.medium.len());
+    println!(rt;
+        "{row} {name} {} calls {} held {} out {} storage {}",
+        Said(answer),
+        w.calls,
+        Hex(bufwriter::buffer(w.state, w.storage)),
+        Hex(&w.medium[..out]),
+        Hex(w.storage)
+    )
 }
 
-// A new writer's `write`, and its `write_all`.
-fn write_new(
+// A call from a state, and its line.
+fn run(
     rt: &HostRuntime,
     row: usize,
+    call: Call<'_>,
+    state: State,
     storage: &mut [u8],
     script: &[u32],
-    slice: &[u8],
 ) -> io::Result<()> {
     let mut medium = [0u8; 16];
-    let a = bufwriter::write(bufwriter::new(), storage, script, &mut medium, slice);
-    show(rt, row, b"write", a, storage, &medium)
+    let mut w = BufWriter {
+        state,
+        storage,
+        script,
+        medium: &mut medium,
+        calls: 0,
+    };
+    let (name, answer) = match call {
+        Call::Write(slice) => ("write", counted(bufwriter::write(&mut w, slice))),
+        Call::WriteAll(slice) => ("write_all", uncounted(bufwriter::write_all(&mut w, slice))),
+        Call::Flush => ("flush", uncounted(bufwriter::flush(&mut w))),
+        Call::LineWrite(slice) => ("line write", counted(linewriter::write(&mut w, slice))),
+    };
+    show(rt, row, name, answer, &w)
 }
 
-fn write_all_new(
-    rt: &HostRuntime,
-    row: usize,
-    storage: &mut [u8],
-    script: &[u32],
-    slice: &[u8],
-) -> io::Result<()> {
-    let mut medium = [0u8; 16];
-    let a = bufwriter::write_all(bufwriter::new(), storage, script, &mut medium, slice);
-    show(rt, row, b"write_all", a, storage, &medium)
+// A new writer's call.
+fn new(rt: &HostRuntime, row: usize, call: Call<'_>, script: &[u32]) -> io::Result<()> {
+    run(rt, row, call, bufwriter::new(), &mut [0; 4], script)
 }
 
-// The state of a writer that holds abc.
-fn holds_three() -> State {
-    State {
+// A call of a writer that holds abc, with storage abc0.
+fn held(rt: &HostRuntime, row: usize, call: Call<'_>, script: &[u32]) -> io::Result<()> {
+    let state = State {
         held: 3,
         out: 0,
         used: 0,
-    }
-}
-
-// held abc, storage abc0: `write`, and `flush`.
-fn write_held(rt: &HostRuntime, row: usize, script: &[u32], slice: &[u8]) -> io::Result<()> {
-    let mut storage = [97u8, 98, 99, 0];
-    let mut medium = [0u8; 16];
-    let a = bufwriter::write(holds_three(), &mut storage, script, &mut medium, slice);
-    show(rt, row, b"write", a, &storage, &medium)
-}
-
-fn flush_held(rt: &HostRuntime, row: usize, script: &[u32]) -> io::Result<()> {
-    let mut storage = [97u8, 98, 99, 0];
-    let mut medium = [0u8; 16];
-    let a = bufwriter::flush(holds_three(), &mut storage, script, &mut medium);
-    show(rt, row, b"flush", a, &storage, &medium)
-}
-
-// A new line writer's `write`.
-fn line_write(rt: &HostRuntime, row: usize, script: &[u32], slice: &[u8]) -> io::Result<()> {
-    let mut storage = [0u8; 4];
-    let mut medium = [0u8; 16];
-    let a = linewriter::write(bufwriter::new(), &mut storage, script, &mut medium, slice);
-    show(rt, row, b"line write", a, &storage, &medium)
-}
-
-// 1. `write` abcd, [4].
-fn row_1(rt: &HostRuntime) -> io::Result<()> {
-    let mut storage = [0u8; 4];
-    write_new(rt, 1, &mut storage, &[4u32], b"abcd")
-}
-
-// 6. Capacity 0, `write` of nothing, [7]. `write_all` of nothing.
-fn row_6(rt: &HostRuntime) -> io::Result<()> {
-    let mut storage = [0u8; 0];
-    write_new(rt, 6, &mut storage, &[7u32], b"")?;
-    write_all_new(rt, 6, &mut storage, &[7u32], b"")
+    };
+    run(rt, row, call, state, &mut [b'a', b'b', b'c', 0], script)
 }
 
 pub(crate) fn rows(rt: &HostRuntime) -> io::Result<()> {
-    row_1(rt)?;
+    // 1. `write` abcd, [4].
+    new(rt, 1, Call::Write(b"abcd"), &[4])?;
     // 2. held abc, `write` d, [].
-    write_held(rt, 2, &[0u32; 0], b"d")?;
+    held(rt, 2, Call::Write(b"d"), &[])?;
     // 3. held abc, storage abc0, `write` de, [1, 65,536, 2].
-    write_held(rt, 3, &[1u32, 65536, 2], b"de")?;
+    held(rt, 3, Call::Write(b"de"), &[1, 65536, 2])?;
     // 4. held abc, `flush`, [2, 0].
-    flush_held(rt, 4, &[2u32, 0])?;
+    held(rt, 4, Call::Flush, &[2, 0])?;
     // 5. held abc, `flush`, [3].
-    flush_held(rt, 5, &[3u32])?;
-    row_6(rt)?;
+    held(rt, 5, Call::Flush, &[3])?;
+    // 6. Capacity 0, `write` of nothing, [7]. `write_all` of nothing.
+    run(rt, 6, Call::Write(b""), bufwriter::new(), &mut [], &[7])?;
+    run(rt, 6, Call::WriteAll(b""), bufwriter::new(), &mut [], &[7])?;
     // 7. line `write` ab\ncd, [3]. ab\ncdef, [3].
-    line_write(rt, 7, &[3u32], b"ab\ncd")?;
-    line_write(rt, 7, &[3u32], b"ab\ncdef")?;
+    new(rt, 7, Call::LineWrite(b"ab\ncd"), &[3])?;
+    new(rt, 7, Call::LineWrite(b"ab\ncdef"), &[3])?;
     // 8. line `write` a\nbcdefg\nh, [1]. With [2].
-    line_write(rt, 8, &[1u32], b"a\nbcdefg\nh")?;
-    line_write(rt, 8, &[2u32], b"a\nbcdefg\nh")?;
+    new(rt, 8, Call::LineWrite(b"a\nbcdefg\nh"), &[1])?;
+    new(rt, 8, Call::LineWrite(b"a\nbcdefg\nh"), &[2])?;
     // 9. line `write` abcde\n, [2].
-    line_write(rt, 9, &[2u32], b"abcde\n")
+    new(rt, 9, Call::LineWrite(b"abcde\n"), &[2])
 }

@@ -3,6 +3,8 @@
 use mathlib.Core.Path.{◌≡◌, sym, ap, ◌∙◌}
 use mathlib.Core.List.{List}
 use Prim.Native.Nat.{ℕ}
+use Rattle.std.specs.Prelude.{Result}
+use Rattle.numbers.specs.declared.Fault.{Fault}
 use Rattle.trace.specs.Trace.{trace_of}
 use Rattle.judge.specs.declared.Verdict.{Verdict}
 use Rattle.judge.proofs.Once.{judge_once}
@@ -12,7 +14,7 @@ use Rattle.session.specs.Session.{verdict_line, JudgeText, Ruled, TextOf, Shown}
 
 line_once : (trace x y : List ℕ) → JudgeText trace x → JudgeText trace y → x ≡ y
 line_once trace x y a b =
-    a.is ∙ ap (λ (v : Verdict). verdict_line v) (judge_once (trace_of trace) a.verdict b.verdict a.judged b.judged) ∙ sym b.is
+    a.is ∙ ap (λ (v : Result Verdict Fault). verdict_line v) (judge_once (trace_of trace) a.verdict b.verdict a.judged b.judged) ∙ sym b.is
 
 text_once : (p : Parsed) (x y : List ℕ) → TextOf p x → TextOf p y → x ≡ y
 text_once (fault place) x y a b = a ∙ sym b

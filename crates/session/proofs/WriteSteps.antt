@@ -1,20 +1,25 @@
 -- A writer's session: one call.
 -- Assumes nothing.
 use mathlib.Core.Path.{◌≡◌, sym, ap, ap₂, ◌∙◌}
-use mathlib.Core.List.{List}
+use mathlib.Core.Logic.{◌⊎◌, inl, inr}
+use mathlib.Core.Bool.{Bool}
+use mathlib.Core.List.{List, []}
 use Prim.Native.Nat.{ℕ}
 use lib.ListN.{take}
 use borrow.Author.Tests.{eq-eqb, ne_eqb}
-use Rattle.card.specs.Answers.{said}
-use Rattle.flushing.specs.declared.State.{State}
-use Rattle.flushing.specs.declared.Answered.{Answered}
-use Rattle.flushing.specs.World.{World, Told, world_of, fresh, told, reported, new}
+use Rattle.card.specs.Answers.{Said, Answer, said}
+use Rattle.flushing.specs.declared.BufWriter.{BufWriter}
+use Rattle.flushing.specs.World.{World, Told, Lent, world, tells, reported}
 use Rattle.writer.specs.Writer.{write_call, write_all_call}
 use Rattle.line.specs.Line.{line_write_call, line_write_all_call}
+use Rattle.form.specs.declared.Call.{Call}
+use Rattle.form.specs.declared.Call.TheVariants.{Read, Peek, Consume, Seek, Fill}
+use Rattle.form.specs.Calls.{Asked, asked}
 use Rattle.text.specs.declared.Name.{Name}
-use Rattle.text.specs.Printed.{printed}
+use Rattle.text.specs.declared.Page.{Page}
+use Rattle.text.specs.Printed.{written}
 use Rattle.text.specs.Lines.{writer_line, writer_end}
-use Rattle.session.specs.Writing.{told_write, told_write_all, stepped, writer_ends}
+use Rattle.session.specs.Writing.{told_write, told_write_all, stepped, writer_step, writer_ends}
 use Rattle.session.specs.Lines.{Step}
 use Rattle.session.specs.Steps.{Steps}
 
@@ -39,26 +44,34 @@ module _ (kind : ℕ) (script : List ℕ) (w : World) (s : List ℕ) (t : Told) 
 
 -- ---- one call
 
--- what a call told, its line and the world that it leaves
-stepped_is : (name : Name) (t : Told) (a : Answered) (x y : List ℕ) → told a x y ≡ t → stepped name t ≡ record { line = writer_line name (said a.answer) a.calls a.state.held a.state.out; world = world_of a.state x y }
+-- a call that told this and left the writer so, and its line
+pub steps : (s : Step World) (page after : Page) (name : Name) (t : Told) (answer : Answer) (a : Said) (w : BufWriter) → s ≡ stepped name t → said answer ≡ a → tells a w ≡ t → after ≡ written page (writer_line name (said answer) w.calls w.state.held w.state.out) → Steps s page after (world w)
 unfolding stepped
-stepped_is name t a x y e = ap (λ (u : Told). stepped name u) (sym e)
+steps s page after name t answer a w e k q p =
+    let is = e ∙ ap (λ (u : Told). stepped name u) (sym q) in
+    record {
+      prints = p ∙ ap (λ (x : Said). written page (writer_line name x w.calls w.state.held w.state.out)) k ∙ ap (λ (z : Step World). written page z.line) (sym is);
+      leaves = ap (λ (z : Step World). z.world) (sym is);
+    }
 
-module _ (s : Step World) (output : List ℕ) (at : ℕ) where
-  -- a call of the writer
-  pub steps : (name : Name) (t : Told) (a : Answered) (x y o : List ℕ) (n : ℕ) (state : State) → s ≡ stepped name t → told a x y ≡ t → record { output = o; at = n } ≡ printed output at (writer_line name (said a.answer) a.calls a.state.held a.state.out) → state ≡ a.state → Steps s output at o n (world_of state x y)
-  steps name t a x y o n state e q p k =
-      let is = e ∙ stepped_is name t a x y q in
-      record {
-        prints = p ∙ ap (λ (z : Step World). printed output at z.line) (sym is);
-        leaves = ap (λ (z : State). world_of z x y) k ∙ ap (λ (z : Step World). z.world) (sym is);
-      }
+-- a reader's call
+pub idle : (kind : ℕ) (script : List ℕ) (w : World) (t : List ℕ) (call : Call) → ((n : ℕ) × (call ≡ Read n)) ⊎ (((n : ℕ) × (call ≡ Peek n)) ⊎ (((n : ℕ) × (call ≡ Consume n)) ⊎ (((back : Bool) × (size : ℕ) × (call ≡ Seek back size)) ⊎ (call ≡ Fill)))) → writer_step kind script w (asked t call) ≡ record { line = []; world = w }
+unfolding writer_step
+idle kind script w t call (inl (n, e)) = ap (λ (x : Call). writer_step kind script w (asked t x)) e
+idle kind script w t call (inr (inl (n, e))) = ap (λ (x : Call). writer_step kind script w (asked t x)) e
+idle kind script w t call (inr (inr (inl (n, e)))) = ap (λ (x : Call). writer_step kind script w (asked t x)) e
+idle kind script w t call (inr (inr (inr (inl (back, size, e))))) = ap (λ (x : Call). writer_step kind script w (asked t x)) e
+idle kind script w t call (inr (inr (inr (inr e)))) = ap (λ (x : Call). writer_step kind script w (asked t x)) e
 
--- ---- the start and the end line
+-- ---- the end line
 
-pub starts : (state : State) (st me : List ℕ) → state ≡ fresh → world_of state st me ≡ new st me
-starts state st me e = ap (λ (s : State). world_of s st me) e
+-- what is lent stays lent, so the calls of a session use one script
+pub lent_on : (u v w : BufWriter) → Lent u v → Lent v w → Lent u w
+lent_on u v w a b = record { storage = b.storage ∙ a.storage; medium = b.medium ∙ a.medium; script = b.script ∙ a.script }
 
-pub ends_text : (state : State) (st me held out : List ℕ) → held ≡ take state.held st → out ≡ take state.out me → writer_end held out ≡ writer_ends (world_of state st me)
+pub same_lent : (kind : ℕ) (u v : BufWriter) → Lent u v → (w x : World) (call : Asked) (page after : Page) → Steps (writer_step kind v.script.now w call) page after x → Steps (writer_step kind u.script.now w call) page after x
+same_lent kind u v a w x call page after p = rw (← a.script) p
+
+pub ends_text : (w : BufWriter) (held out : List ℕ) → held ≡ take w.state.held w.storage.now → out ≡ take w.state.out w.medium.now → writer_end held out ≡ writer_ends (world w)
 unfolding writer_ends
-ends_text state st me held out ph po = ap₂ (λ (a b : List ℕ). writer_end a b) ph po
+ends_text w held out ph po = ap₂ (λ (a b : List ℕ). writer_end a b) ph po

@@ -1,10 +1,11 @@
 -- Module 6, the bench program's text for an input.
 -- Assumes nothing.
-use Rattle.std.specs.Prelude.{ℕ, ◌≡◌, List, eqb}
+use Rattle.std.specs.Prelude.{ℕ, ◌≡◌, List, Result, Ok, Err, eqb}
 use Rattle.laws.specs.Pick.{pick}
+use Rattle.numbers.specs.declared.Fault.{Fault}
 use Rattle.trace.specs.Trace.{trace_of}
 use Rattle.judge.specs.declared.Verdict.{Verdict}
-use Rattle.judge.specs.declared.Verdict.TheVariants.{Possible, Impossible, Refused}
+use Rattle.judge.specs.declared.Verdict.TheVariants.{Possible, Impossible}
 use Rattle.judge.specs.Judge.{Judged}
 use Rattle.form.specs.Session.{Parsed, fault, traced, session, session_of}
 use Rattle.text.specs.Printed.{printed}
@@ -13,14 +14,14 @@ use Rattle.session.specs.Writing.{writer_text}
 use Rattle.session.specs.Reading.{reader_text}
 
 -- "Kind 3 prints one line"
-abbrev pub verdict_line : Verdict → List ℕ
-verdict_line Possible = judge_possible
-verdict_line Impossible = judge_impossible
-verdict_line (Refused place) = judge_refused place
+abbrev pub verdict_line : Result Verdict Fault → List ℕ
+verdict_line (Ok Possible) = judge_possible
+verdict_line (Ok Impossible) = judge_impossible
+verdict_line (Err e) = judge_refused e.place
 
 -- the verdict that the judge promises, and its line
 pub record JudgeText (trace text : List ℕ) : Type 0 where
-  pub verdict : Verdict
+  pub verdict : Result Verdict Fault
   pub judged : Judged (trace_of trace) verdict
   pub is : text ≡ verdict_line verdict
 

@@ -1,195 +1,107 @@
 // A reader's session.
-ghost use Rattle.std.specs.Prelude.{◌≡◌, List, ℕ, ◌≤◌, replicate};
+ghost use Rattle.std.specs.Prelude.{◌≡◌, ◌≤◌, replicate};
 ghost use Rattle.card.specs.Limits.{bytes_most};
 ghost use Rattle.card.specs.Answers.{said};
-ghost use Rattle.reader.specs.World.{world, called};
-ghost use Rattle.reader.specs.Buffer.{new};
+ghost use Rattle.reader.specs.World.{Lent, world_of, called};
 ghost use Rattle.reader.specs.Reader as Reader;
 ghost use Rattle.form.specs.Calls.{asked};
 ghost use Rattle.session.specs.Reading.{offset_of, stepped, read_step, reader_step, reader_ends};
 ghost use Rattle.session.specs.Steps.{Shows, Bounded, Runs, Steps, Lines};
 
-use card::Answer;
-use form::{Call, CallRead, calls};
-use reader::{Answered, State};
-use text::{Name, lines};
-
-// The state that a call leaves, and the place after its line.
-#[derive(Clone, Copy)]
-pub struct Moved {
-    pub state: State,
-    pub at: usize,
-}
+use card::limits::BYTES_MOST;
+use card::{Answer, counted, uncounted};
+use form::{Call, Header, READER, calls};
+use reader::BufReader;
+use text::{Name, Page};
 
 // How many bytes an answer shows: its count after ok, none for every other answer.
 fn shown(answer: Answer) -> usize
     ensures { Shows (said answer) result }
 {
     match answer {
-        Answer::Ok(n) => n,
-        Answer::Done => 0,
-        Answer::Interrupted => 0,
-        Answer::Zero => 0,
-        Answer::Whole => 0,
-        Answer::Error(_) => 0,
-        Answer::Refused(_) => 0,
+        Ok(count) => count.unwrap_or(0),
+        Err(_) => 0,
     }
 }
 
-// The line of a call, with what its answer shows of the bytes.
-fn line(output: &mut [u8], at: usize, name: Name, a: Answered, bytes: &[u8]) -> Moved
-    ensures { (x : List ℕ) → Steps (stepped name (called a x) bytes.now) output.old at output.new result.at (world x result.state) }
+// The line of a call that left the reader so, with what its answer shows of the bytes.
+fn line(page: &mut Page<'_>, name: Name, answer: Answer, r: &BufReader<'_>, bytes: &[u8])
+    ensures { Steps (stepped name (called (said answer) r.now) bytes.now) page.old page.new (world_of r.now) }
 {
-    let answer = a.answer;
-    let state = a.state;
-    let next = lines::reader(
-        output,
-        at,
-        name,
-        answer,
-        a.calls,
-        state.pos,
-        state.filled,
-        crate::part(bytes, 0, shown(answer)),
-    );
-    Moved { state, at: next }
+    let bytes = crate::part(bytes, 0, shown(answer));
+    page.reader_line(name, answer, r.calls, r.state.pos, r.state.filled, bytes);
 }
 
 // `read` into a destination.
-fn read_into(
-    storage: &mut [u8],
-    script: &[u32],
-    stock: &[u8],
-    state: State,
-    destination: &mut [u8],
-    output: &mut [u8],
-    at: usize,
-) -> Moved
-    ensures { Steps (read_step (Reader.read script.now stock.now destination.old (world storage.old state))) output.old at output.new result.at (world storage.new result.state) }
+fn read_into(r: &mut BufReader<'_>, destination: &mut [u8], page: &mut Page<'_>)
+    ensures lent { Lent r.old r.new }
+    ensures steps { Steps (read_step (Reader.read r.old.script.now r.old.stock.now destination.old (world_of r.old))) page.old page.new (world_of r.new) }
 {
-    let a = reader::read(storage, script, stock, state, destination);
-    line(output, at, Name::Read, a, destination)
+    let answer = counted(r.read(destination));
+    line(page, Name::Read, answer, r, destination);
 }
 
 // `read` n, into a destination of n zeros.
-fn read(
-    storage: &mut [u8],
-    script: &[u32],
-    stock: &[u8],
-    state: State,
-    n: usize,
-    output: &mut [u8],
-    at: usize,
-) -> Moved
+fn read(r: &mut BufReader<'_>, n: usize, page: &mut Page<'_>)
     requires { n ≤ bytes_most }
-    ensures { Steps (read_step (Reader.read script.now stock.now (replicate n 0) (world storage.old state))) output.old at output.new result.at (world storage.new result.state) }
+    ensures lent { Lent r.old r.new }
+    ensures steps { Steps (read_step (Reader.read r.old.script.now r.old.stock.now (replicate n 0) (world_of r.old))) page.old page.new (world_of r.new) }
 {
-    let mut destination = [0u8; 16384];
-    read_into(
-        storage,
-        script,
-        stock,
-        state,
-        &mut destination[..n],
-        output,
-        at,
-    )
+    let mut destination = [0u8; BYTES_MOST];
+    read_into(r, &mut destination[..n], page);
 }
 
-// The offset of a seek.
+// The offset of a seek. Direction and size are the session's two numbers (`form::Call`).
 fn offset(back: bool, size: usize) -> i64
     requires { Bounded back size }
     ensures { result ≡ offset_of back size }
 {
     let magnitude = size as i64;
-    if back {
-        return 0 - magnitude;
-    }
-    magnitude
+    if back { -magnitude } else { magnitude }
 }
 
-// One call of the session, and its line.
-fn step(
-    session: &[u8],
-    call: Call,
-    state: State,
-    storage: &mut [u8],
-    script: &[u32],
-    stock: &[u8],
-    output: &mut [u8],
-    at: usize,
-) -> Moved
+// One call of the session, and its line. The reader and the page are lent apart: what a line shows is
+// lent by the reader while the page changes, which a method of a struct of both could not do.
+fn step(session: &[u8], call: Call, r: &mut BufReader<'_>, page: &mut Page<'_>)
     requires { Runs (asked session.now call) }
-    ensures { Steps (reader_step script.now stock.now (world storage.old state) (asked session.now call)) output.old at output.new result.at (world storage.new result.state) }
+    ensures lent { Lent r.old r.new }
+    ensures steps { Steps (reader_step r.old.script.now r.old.stock.now (world_of r.old) (asked session.now call)) page.old page.new (world_of r.new) }
 {
     match call {
-        Call::Read(n) => read(storage, script, stock, state, n, output, at),
+        Call::Read(n) => read(r, n, page),
         Call::Peek(n) => {
-            let a = reader::peek(storage, script, stock, state, n);
-            line(
-                output,
-                at,
-                Name::Peek,
-                a,
-                reader::peeked(storage, a.state, n),
-            )
+            let answer = counted(r.peek(n));
+            line(page, Name::Peek, answer, r, r.peeked(n));
         }
         Call::Consume(n) => {
-            let a = reader::consume(storage, script, stock, state, n);
-            line(output, at, Name::Consume, a, b"")
+            let answer = uncounted(r.consume(n));
+            line(page, Name::Consume, answer, r, b"");
         }
         Call::Seek(back, size) => {
-            let a = reader::seek_relative(storage, script, stock, state, offset(back, size));
-            line(output, at, Name::SeekRelative, a, b"")
+            let answer = uncounted(r.seek_relative(offset(back, size)));
+            line(page, Name::SeekRelative, answer, r, b"");
         }
         Call::Fill => {
-            let a = reader::fill_buf(storage, script, stock, state);
-            line(
-                output,
-                at,
-                Name::Fill,
-                a,
-                reader::buffered(storage, a.state),
-            )
+            let answer = counted(r.fill_buf());
+            line(page, Name::Fill, answer, r, r.buffered());
         }
-        Call::Write(_, _) => Moved { state, at },
-        Call::WriteAll(_, _) => Moved { state, at },
-        Call::Flush => Moved { state, at },
+        Call::Write(_, _) | Call::WriteAll(_, _) | Call::Flush => {}
     }
 }
 
-// The calls of a session, and its end line.
-pub(crate) fn run(
-    session: &[u8],
-    count: usize,
-    first: usize,
-    script: &[u32],
-    stock: &[u8],
-    storage: &mut [u8],
-    output: &mut [u8],
-    at: usize,
-) -> usize
-    ensures { Lines session.now 2 count first (λ w call. reader_step script.now stock.now w call) reader_ends (world storage.old new) output.old at output.new result }
+// The calls of a session, and its end line. `writing::run` is alike: one function for both would take
+// step and end as closures, and would have to say of any such closures what each says of its own.
+pub(crate) fn run(session: &[u8], header: Header, r: &mut BufReader<'_>, page: &mut Page<'_>)
+    ensures { Lines session.now 2 header.count header.first (λ w call. reader_step r.old.script.now r.old.stock.now w call) reader_ends (world_of r.old) page.old page.new }
 {
-    let mut state = reader::new();
-    let mut left = count;
-    let mut place = first;
-    let mut next = at;
-    while 0 < left {
-        let read = calls::read_call(session, 2, place);
-        match read {
-            CallRead::Found(call, after) => {
-                let s = step(session, call, state, storage, script, stock, output, next);
-                let left_behind = s.state;
-                state = left_behind;
-                next = s.at;
-                place = after;
-                left -= 1;
-            }
-            CallRead::Fault(_) => {
-                return next;
-            }
-        }
+    let mut place = header.first;
+    for _ in 0..header.count {
+        let Ok((call, after)) = calls::read_call(session, READER, place) else {
+            return;
+        };
+        step(session, call, r, page);
+        place = after;
     }
-    lines::reader_end(output, next, reader::buffered(storage, state), state.taken)
+    let taken = r.state.taken;
+    page.reader_end(r.buffered(), taken);
 }

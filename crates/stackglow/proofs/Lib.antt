@@ -1,3 +1,2 @@
--- `Handing`: lemmas that the functions' proofs cite. `Sames`: no second answer.
-pub mod Handing
+-- `Sames`: no second answer.
 pub mod Sames

@@ -1,11 +1,15 @@
 -- No second answer keeps a promise: what a call hands over has a field for its result and for every number and byte
 -- that it may change, and each promise is an equation for all of them.
 -- Assumes nothing.
-use mathlib.Core.Path.{◌≡◌}
+use mathlib.Core.Path.{◌≡◌, sym, ap, ◌∙◌}
 use mathlib.Core.List.{List}
 use Prim.Native.Nat.{ℕ}
 use lib.IntN.{ℤ}
+use Rattle.card.specs.Answers.{Said}
 use Rattle.card.proofs.Sames.{one}
+use Rattle.flushing.specs.declared.State.{State}
+use Rattle.stackglow.specs.Numbers.{number_of, value_of}
+use Rattle.stackglow.specs.declared.writing.Places.{Places}
 use Rattle.flushing.specs.World.{World, Called, Told, reported}
 use Rattle.flushing.specs.Flush.{flush_buf_call}
 use Rattle.writer.specs.Writer.{write_call, write_all_call, flush_call}
@@ -55,3 +59,29 @@ module _ (script stock : List ℕ) (w : Reader.World) (r q : Reading.Handed) whe
 
 pub read_one : (script stock destination : List ℕ) (w : Reader.World) (r q : Reading.HandedRead) → r ≡ Reading.handed_read (read script stock destination w) → q ≡ Reading.handed_read (read script stock destination w) → r ≡ q
 read_one script stock destination w = one (Reading.handed_read (read script stock destination w))
+
+-- ---- the places of a writer's numbers
+
+pub state_one : (p : Places) (r q : State) → r ≡ Writing.state_of p.held.now p.out.now p.used.now → q ≡ Writing.state_of p.held.now p.out.now p.used.now → r ≡ q
+state_one p = one (Writing.state_of p.held.now p.out.now p.used.now)
+
+-- what a call left, in the places p: two numbers r and q, with what they leave in them
+pub record Left (x y : Places) : Type 0 where
+  pub value : x.value.now ≡ y.value.now
+  pub calls : x.calls.now ≡ y.calls.now
+  pub held : x.held.now ≡ y.held.now
+  pub out : x.out.now ≡ y.out.now
+  pub used : x.used.now ≡ y.used.now
+
+pub left_one : (a : Said) (state : State) (calls r q : ℕ) (x y : Places) → r ≡ number_of a → q ≡ number_of a → x.value.now ≡ value_of a → y.value.now ≡ value_of a → x.calls.now ≡ calls → y.calls.now ≡ calls → Writing.state_of x.held.now x.out.now x.used.now ≡ state → Writing.state_of y.held.now y.out.now y.used.now ≡ state → (r ≡ q) × Left x y
+left_one a state calls r q x y nr nq vx vy cx cy sx sy =
+    let s = sx ∙ sym sy in (
+      nr ∙ sym nq,
+      record {
+        value = vx ∙ sym vy;
+        calls = cx ∙ sym cy;
+        held = ap (λ (t : State). t.held) s;
+        out = ap (λ (t : State). t.out) s;
+        used = ap (λ (t : State). t.used) s;
+      },
+    )

@@ -1,8 +1,9 @@
 -- What a reader's call hands over.
 -- Assumes nothing.
-use Rattle.std.specs.Prelude.{ℕ, List}
+use Rattle.std.specs.Prelude.{◌≡◌, ℕ, List}
 use Rattle.reader.specs.declared.State.{State}
 use Rattle.reader.specs.World.{Called, Reading}
+use Rattle.stackglow.specs.declared.reading.Places.{Places}
 use Rattle.stackglow.specs.Numbers.{number_of, value_of}
 
 -- the answer's number and value, the device calls, the state's numbers and every byte of the storage
@@ -41,3 +42,12 @@ handed_read r = record { destination = r.destination; call = handed r.called }
 -- four numbers as a state
 abbrev pub state_of : ℕ → ℕ → ℕ → ℕ → State
 state_of pos filled taken used = record { pos = pos; filled = filled; taken = taken; used = used }
+
+-- the same places
+pub record Kept (old new : Places) : Type 0 where
+  pub pos : new.pos.ghost_name ≡ old.pos.ghost_name
+  pub filled : new.filled.ghost_name ≡ old.filled.ghost_name
+  pub taken : new.taken.ghost_name ≡ old.taken.ghost_name
+  pub used : new.used.ghost_name ≡ old.used.ghost_name
+  pub value : new.value.ghost_name ≡ old.value.ghost_name
+  pub calls : new.calls.ghost_name ≡ old.calls.ghost_name

@@ -1,8 +1,9 @@
 -- What a writer's call hands over.
 -- Assumes nothing.
-use Rattle.std.specs.Prelude.{ℕ, List}
+use Rattle.std.specs.Prelude.{◌≡◌, ℕ, List}
 use Rattle.flushing.specs.declared.State.{State}
 use Rattle.flushing.specs.World.{Told}
+use Rattle.stackglow.specs.declared.writing.Places.{Places}
 use Rattle.stackglow.specs.Numbers.{number_of, value_of}
 
 -- the answer's number and value, the device calls, the state's numbers and every lent byte
@@ -33,3 +34,11 @@ handed t =
 -- three numbers as a state
 abbrev pub state_of : ℕ → ℕ → ℕ → State
 state_of held out used = record { held = held; out = out; used = used }
+
+-- the numbers are where they were
+pub record Kept (old new : Places) : Type 0 where
+  pub held : new.held.ghost_name ≡ old.held.ghost_name
+  pub out : new.out.ghost_name ≡ old.out.ghost_name
+  pub used : new.used.ghost_name ≡ old.used.ghost_name
+  pub value : new.value.ghost_name ≡ old.value.ghost_name
+  pub calls : new.calls.ghost_name ≡ old.calls.ghost_name

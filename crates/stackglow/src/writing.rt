@@ -1,34 +1,56 @@
 // The writer's calls. The state's numbers go in and out through `held`, `out` and `used`; `value`
-// and `calls` only go out, and what they had does not matter.
-ghost use Rattle.std.specs.Prelude.{◌≡◌, List, ℕ};
-ghost use Rattle.flushing.specs.World.{world_of, told, reported};
+// and `calls` only go out, and what they had does not matter. Each number is a parameter, and the
+// functions are alike, because C calls them so; with a closure for the call that each makes they
+// would be no plainer.
+ghost use Rattle.std.specs.Prelude.{◌≡◌};
+ghost use Rattle.card.specs.Answers.{said};
+ghost use Rattle.flushing.specs.World.{world_of, reported};
 ghost use Rattle.flushing.specs.Flush.{flush_buf_call};
 ghost use Rattle.writer.specs.Writer.{write_call, write_all_call, flush_call};
-ghost use Rattle.stackglow.specs.Writing.{handed, state_of};
+ghost use Rattle.stackglow.specs.Numbers.{number_of, value_of};
+ghost use Rattle.stackglow.specs.Writing.{Kept, handed, state_of};
 
 use crate::answer;
-use flushing::{Answered, State, flush};
+use card::Answer;
+use flushing::{BufWriter, State};
 use writer::bufwriter;
 
-// What a call left, put where the caller looks for it; the answer's number is returned.
-pub fn hand(
-    a: Answered,
-    held: &mut usize,
-    out: &mut usize,
-    used: &mut usize,
-    value: &mut usize,
-    calls: &mut usize,
-) -> u32
-    ensures { (storage medium : List ℕ) → record { number = result; value = value.new; calls = calls.new; held = held.new; out = out.new; used = used.new; storage = storage; medium = medium } ≡ handed (told a storage medium) }
-{
-    let said = a.answer;
-    let state = a.state;
-    *held = state.held;
-    *out = state.out;
-    *used = state.used;
-    *value = answer::value(said);
-    *calls = a.calls;
-    answer::number(said)
+// The numbers that go in and out, where the caller keeps them.
+#[derive(Drop)]
+pub struct Places<'a> {
+    pub held: &'a mut usize,
+    pub out: &'a mut usize,
+    pub used: &'a mut usize,
+    pub value: &'a mut usize,
+    pub calls: &'a mut usize,
+}
+
+impl Places<'_> {
+    pub fn state(&self) -> State
+        ensures { result ≡ state_of self.now.held.now self.now.out.now self.now.used.now }
+    {
+        State {
+            held: *self.held,
+            out: *self.out,
+            used: *self.used,
+        }
+    }
+
+    // What a call left, put where the caller looks for it; the answer's number is returned.
+    pub fn hand(&mut self, answer: Answer, state: State, calls: usize) -> u32
+        ensures kept { Kept self.old self.new }
+        ensures number { result ≡ number_of (said answer) }
+        ensures value { self.new.value.now ≡ value_of (said answer) }
+        ensures calls { self.new.calls.now ≡ calls }
+        ensures state { state_of self.new.held.now self.new.out.now self.new.used.now ≡ state }
+    {
+        *self.held = state.held;
+        *self.out = state.out;
+        *self.used = state.used;
+        *self.value = answer::value(answer);
+        *self.calls = calls;
+        answer::number(answer)
+    }
 }
 
 pub fn stackglow_flush_buf(
@@ -43,13 +65,22 @@ pub fn stackglow_flush_buf(
 ) -> u32
     ensures { record { number = result; value = value.new; calls = calls.new; held = held.new; out = out.new; used = used.new; storage = storage.new; medium = medium.new } ≡ handed (reported (flush_buf_call script.now (world_of (state_of held.old out.old used.old) storage.old medium.old))) }
 {
-    let state = State {
-        held: *held,
-        out: *out,
-        used: *used,
+    let mut places = Places {
+        held,
+        out,
+        used,
+        value,
+        calls,
     };
-    let a = flush::flush_buf(state, storage, script, medium);
-    hand(a, held, out, used, value, calls)
+    let mut w = BufWriter {
+        state: places.state(),
+        storage,
+        script,
+        medium,
+        calls: 0,
+    };
+    let answer = card::uncounted(w.flush_buf());
+    places.hand(answer, w.state, w.calls)
 }
 
 pub fn stackglow_write(
@@ -65,13 +96,22 @@ pub fn stackglow_write(
 ) -> u32
     ensures { record { number = result; value = value.new; calls = calls.new; held = held.new; out = out.new; used = used.new; storage = storage.new; medium = medium.new } ≡ handed (reported (write_call script.now (world_of (state_of held.old out.old used.old) storage.old medium.old) slice.now)) }
 {
-    let state = State {
-        held: *held,
-        out: *out,
-        used: *used,
+    let mut places = Places {
+        held,
+        out,
+        used,
+        value,
+        calls,
     };
-    let a = bufwriter::write(state, storage, script, medium, slice);
-    hand(a, held, out, used, value, calls)
+    let mut w = BufWriter {
+        state: places.state(),
+        storage,
+        script,
+        medium,
+        calls: 0,
+    };
+    let answer = card::counted(bufwriter::write(&mut w, slice));
+    places.hand(answer, w.state, w.calls)
 }
 
 pub fn stackglow_write_all(
@@ -87,13 +127,22 @@ pub fn stackglow_write_all(
 ) -> u32
     ensures { record { number = result; value = value.new; calls = calls.new; held = held.new; out = out.new; used = used.new; storage = storage.new; medium = medium.new } ≡ handed (reported (write_all_call script.now (world_of (state_of held.old out.old used.old) storage.old medium.old) slice.now)) }
 {
-    let state = State {
-        held: *held,
-        out: *out,
-        used: *used,
+    let mut places = Places {
+        held,
+        out,
+        used,
+        value,
+        calls,
     };
-    let a = bufwriter::write_all(state, storage, script, medium, slice);
-    hand(a, held, out, used, value, calls)
+    let mut w = BufWriter {
+        state: places.state(),
+        storage,
+        script,
+        medium,
+        calls: 0,
+    };
+    let answer = card::uncounted(bufwriter::write_all(&mut w, slice));
+    places.hand(answer, w.state, w.calls)
 }
 
 pub fn stackglow_flush(
@@ -108,11 +157,20 @@ pub fn stackglow_flush(
 ) -> u32
     ensures { record { number = result; value = value.new; calls = calls.new; held = held.new; out = out.new; used = used.new; storage = storage.new; medium = medium.new } ≡ handed (reported (flush_call script.now (world_of (state_of held.old out.old used.old) storage.old medium.old))) }
 {
-    let state = State {
-        held: *held,
-        out: *out,
-        used: *used,
+    let mut places = Places {
+        held,
+        out,
+        used,
+        value,
+        calls,
     };
-    let a = bufwriter::flush(state, storage, script, medium);
-    hand(a, held, out, used, value, calls)
+    let mut w = BufWriter {
+        state: places.state(),
+        storage,
+        script,
+        medium,
+        calls: 0,
+    };
+    let answer = card::uncounted(bufwriter::flush(&mut w));
+    places.hand(answer, w.state, w.calls)
 }

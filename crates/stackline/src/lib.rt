@@ -1,6 +1,6 @@
 // The line writer's calls as others link them. Their archive, `stackline_c`, is apart from
 // `stackglow_c`, since the compiler makes the plain writer's call faster where the line writer does
-// not call it too. Their shape is that of `stackglow`'s; the flush is `stackglow_flush`.
+// not call it too. C asks for their shape, as for that of `stackglow`'s; the flush is `stackglow_flush`.
 #![tactic(auto)]
 
 ghost use Rattle.std.specs.Prelude.{◌≡◌};
@@ -8,9 +8,9 @@ ghost use Rattle.flushing.specs.World.{world_of, reported};
 ghost use Rattle.line.specs.Line.{line_write_call, line_write_all_call};
 ghost use Rattle.stackglow.specs.Writing.{handed, state_of};
 
-use flushing::State;
+use flushing::BufWriter;
 use line::linewriter;
-use stackglow::writing;
+use stackglow::writing::Places;
 
 pub fn stackglow_line_write(
     held: &mut usize,
@@ -25,13 +25,22 @@ pub fn stackglow_line_write(
 ) -> u32
     ensures { record { number = result; value = value.new; calls = calls.new; held = held.new; out = out.new; used = used.new; storage = storage.new; medium = medium.new } ≡ handed (reported (line_write_call script.now (world_of (state_of held.old out.old used.old) storage.old medium.old) slice.now)) }
 {
-    let state = State {
-        held: *held,
-        out: *out,
-        used: *used,
+    let mut places = Places {
+        held,
+        out,
+        used,
+        value,
+        calls,
     };
-    let a = linewriter::write(state, storage, script, medium, slice);
-    writing::hand(a, held, out, used, value, calls)
+    let mut w = BufWriter {
+        state: places.state(),
+        storage,
+        script,
+        medium,
+        calls: 0,
+    };
+    let answer = card::counted(linewriter::write(&mut w, slice));
+    places.hand(answer, w.state, w.calls)
 }
 
 pub fn stackglow_line_write_all(
@@ -47,11 +56,20 @@ pub fn stackglow_line_write_all(
 ) -> u32
     ensures { record { number = result; value = value.new; calls = calls.new; held = held.new; out = out.new; used = used.new; storage = storage.new; medium = medium.new } ≡ handed (reported (line_write_all_call script.now (world_of (state_of held.old out.old used.old) storage.old medium.old) slice.now)) }
 {
-    let state = State {
-        held: *held,
-        out: *out,
-        used: *used,
+    let mut places = Places {
+        held,
+        out,
+        used,
+        value,
+        calls,
     };
-    let a = linewriter::write_all(state, storage, script, medium, slice);
-    writing::hand(a, held, out, used, value, calls)
+    let mut w = BufWriter {
+        state: places.state(),
+        storage,
+        script,
+        medium,
+        calls: 0,
+    };
+    let answer = card::uncounted(linewriter::write_all(&mut w, slice));
+    places.hand(answer, w.state, w.calls)
 }

@@ -8,9 +8,10 @@ use native.Mathlib.Omega.{arith}
 use lib.Dec.{ltb}
 use borrow.Author.Tests.{lt-ltb, le-ltb, ltb-true, ltb-false}
 use Rattle.laws.proofs.Picks.{by_test}
-use Rattle.text.specs.Printed.{printed}
+use Rattle.text.specs.declared.Page.{Page}
+use Rattle.text.specs.Printed.{written}
 use Rattle.text.specs.Numbers.{digit, digits, decimal_of}
-use Rattle.text.proofs.Prints.{then, byte_is}
+use Rattle.text.proofs.Prints.{then}
 
 -- below ten
 pub few : (k n : ℕ) → n < 10 → digits (suc k) n ≡ digit n ∷ []
@@ -52,8 +53,8 @@ unfolding decimal_of
 more_digits n m h = many 19 n m ∙ ap (λ (l : List ℕ). l ++ (digit (n % 10) ∷ [])) (enough 19 (n / 10) (omega arith) (omega arith))
 
 -- the last digit, printed
-pub prints_one : (output : List ℕ) (at n v : ℕ) {o : List ℕ} {a : ℕ} → record { output = o; at = a } ≡ printed output at (v ∷ []) → v ≡ digit n → n < 10 → record { output = o; at = a } ≡ printed output at (decimal_of n)
-prints_one output at n v e q h = rw (one_digit n h) (byte_is output at v (digit n) e q)
+pub prints_one : (page : Page) (n : ℕ) → n < 10 → written page (digit (n % 10) ∷ []) ≡ written page (decimal_of n)
+prints_one page n h = rw (one_digit n h) (ap (λ (d : ℕ). written page (digit d ∷ [])) (omega arith))
 
-pub prints_more : (output : List ℕ) (at n v : ℕ) {o o' : List ℕ} {a a' : ℕ} → record { output = o; at = a } ≡ printed output at (decimal_of (n / 10)) → record { output = o'; at = a' } ≡ printed o a (v ∷ []) → v ≡ digit (n % 10) → 10 ≤ n → n < 2 ^ 64 → record { output = o'; at = a' } ≡ printed output at (decimal_of n)
-prints_more output at n v {o} {o'} {a} {a'} e f q m h = rw (more_digits n m h) (then output at (decimal_of (n / 10)) (digit (n % 10) ∷ []) e (byte_is o a v (digit (n % 10)) f q))
+pub prints_more : (page : Page) (n : ℕ) → 10 ≤ n → n < 2 ^ 64 → written (written page (decimal_of (n / 10))) (digit (n % 10) ∷ []) ≡ written page (decimal_of n)
+prints_more page n m h = rw (more_digits n m h) (then page (decimal_of (n / 10)) (digit (n % 10) ∷ []))

@@ -5,17 +5,18 @@ use mathlib.Core.List.{List, [], ◌∷◌}
 use Prim.Native.Nat.{ℕ, zero, suc, ◌+◌, ◌*◌, ◌/◌, ◌≤◌}
 use native.Mathlib.Omega.{arith}
 use lib.ListN.{length, length-append}
-use Rattle.card.specs.declared.Answer.{Answer}
-use Rattle.card.specs.declared.Answer.TheVariants.{Ok, Done, Interrupted, Zero, Whole, Error, Refused}
+use Rattle.std.specs.Prelude.{Ok, Err, Some, None}
+use Rattle.card.specs.declared.Failure.TheVariants.{Interrupted, Zero, Whole, Error, Refused}
 use Rattle.text.specs.declared.Name.{Name}
 use Rattle.text.specs.declared.Name.TheVariants.{Write, WriteAll, Flush, Read, Peek, Consume, SeekRelative, Fill}
 use Rattle.text.specs.Words.{name_of}
 use Rattle.text.specs.Numbers.{digits, decimal_of, hex_digits, hex_of}
-use Rattle.text.specs.Answers.{answer_of}
-use Rattle.card.specs.Answers.{said}
+use Rattle.text.specs.Answers.{said_of, answer_of}
+use Rattle.card.specs.declared.Failure.{Failure}
+use Rattle.card.specs.Answers.{Answer, said, failed}
 use Rattle.text.specs.Lines.{session_line, call_of, writer_calls, writer_line, reader_line, writer_end, reader_end, judge_refused, session_refused}
 use Rattle.text.proofs.Decimals.{few, many, by_ten}
-use Rattle.text.proofs.Saids.{said_ok, said_done, said_interrupted, said_zero, said_whole, said_error, said_refused}
+use Rattle.text.proofs.Saids.{said_ok, said_done, said_interrupted, said_zero, said_whole, said_error, said_refused, said_failed}
 
 digits_most : (k n : ℕ) → length (digits k n) ≤ k
 unfolding digits
@@ -49,14 +50,17 @@ name_most Consume = omega arith
 name_most SeekRelative = omega arith
 name_most Fill = omega arith
 
+failed_most : (f : Failure) → length (said_of (failed f)) ≤ 28
+failed_most Interrupted = rw said_interrupted (omega arith)
+failed_most Zero = rw said_zero (omega arith)
+failed_most Whole = rw said_whole (omega arith)
+failed_most (Error code) = rw (said_error code) (omega (arith, decimal_most code))
+failed_most (Refused number) = rw (said_refused number) (omega (arith, decimal_most number))
+
 pub answer_most : (answer : Answer) → length (answer_of answer) ≤ 28
-answer_most (Ok n) = rw (said_ok n) (omega (arith, decimal_most n))
-answer_most Done = rw said_done (omega arith)
-answer_most Interrupted = rw said_interrupted (omega arith)
-answer_most Zero = rw said_zero (omega arith)
-answer_most Whole = rw said_whole (omega arith)
-answer_most (Error code) = rw (said_error code) (omega (arith, decimal_most code))
-answer_most (Refused number) = rw (said_refused number) (omega (arith, decimal_most number))
+answer_most (Ok (Some n)) = rw (said_ok n) (omega (arith, decimal_most n))
+answer_most (Ok None) = rw said_done (omega arith)
+answer_most (Err f) = rw (said_failed f) (failed_most f)
 
 pub session_most_lem : (kind capacity : ℕ) → length (session_line kind capacity) ≤ 59
 unfolding session_line

@@ -1,23 +1,23 @@
--- No second answer meets a promise of this crate: each gives the output and the place after the text, whole.
+-- No second answer meets a promise of this crate: each gives the page after the text, whole.
 -- Assumes nothing.
 use mathlib.Core.Path.{◌≡◌, sym, ◌∙◌}
 use mathlib.Core.List.{List, ◌++◌}
 use Prim.Native.Nat.{ℕ}
-use Rattle.card.specs.declared.Answer.{Answer}
 use Rattle.text.specs.declared.Name.{Name}
-use Rattle.text.specs.Printed.{Printed, printed}
+use Rattle.text.specs.declared.Page.{Page}
+use Rattle.text.specs.Printed.{written}
 use Rattle.text.specs.Words.{name_of}
 use Rattle.text.specs.Numbers.{decimal_of, hex_of}
 use Rattle.text.specs.Answers.{answer_of}
-use Rattle.card.specs.Answers.{said}
+use Rattle.card.specs.Answers.{Answer, said}
 use Rattle.text.specs.Lines.{session_line, writer_line, reader_line, writer_end, reader_end, judge_possible, judge_impossible, judge_refused, session_refused}
 
--- what is left of two functions that print the same text, from the same output and place, is the same
+-- what two functions that print the same text on the same page leave is the same
 abbrev pub Once : List ℕ → Type 0
-Once text = (output : List ℕ) (at : ℕ) (p q : Printed) → p ≡ printed output at text → q ≡ printed output at text → p ≡ q
+Once text = (page p q : Page) → p ≡ written page text → q ≡ written page text → p ≡ q
 
 once : (text : List ℕ) → Once text
-once text output at p q e f = e ∙ sym f
+once text page p q e f = e ∙ sym f
 
 pub say_once : (words : List ℕ) → Once words
 say_once words = once words

@@ -1,26 +1,31 @@
--- The laws of `printed`: what a function that prints the parts of a text one after the other goes by.
+-- The laws of `printed` and `written`: what a function that prints the parts of a text one after the other goes by.
 -- Assumes nothing.
-use mathlib.Core.Path.{◌≡◌, refl, sym, ap, ap₂, ◌∙◌}
-use mathlib.Core.List.{List, [], ◌∷◌, ◌++◌}
-use Prim.Native.Nat.{ℕ, suc, ◌+◌, ◌-◌, ◌≤◌, ◌<◌, min}
+use mathlib.Core.Path.{◌≡◌, refl, sym, ap, ◌∙◌}
+use mathlib.Core.List.{List, [], ◌++◌}
+use Prim.Native.Nat.{ℕ, ◌+◌, ◌-◌, ◌≤◌, min}
 use native.Mathlib.Nat.{add-zero, add_assoc}
-use native.Mathlib.Numerals.{add-one}
 use native.Mathlib.Decide.{dec_le}
 use native.Mathlib.Omega.{arith}
-use lib.ListN.{length, take, drop, set, length-append}
-use lib.Seq.{take-append-le, drop-append_seam, set_split, append_snoc}
+use lib.ListN.{length, take, drop, length-append}
+use lib.Seq.{take-append-le, drop-append_seam}
 use Rattle.laws.specs.Put.{put}
 use Rattle.laws.proofs.Puts.{put_none, put_zero, put-put, length-put, opened}
-use Rattle.text.specs.Printed.{Printed, printed, fitting}
+use Rattle.text.specs.declared.Page.{Page}
+use Rattle.text.specs.Printed.{Printed, printed, fitting, written}
 
 -- the definition as a law, at any form of the count
 pub prints : (output o : List ℕ) (at r n : ℕ) (text : List ℕ) → o ≡ put output at text n → r ≡ at + n → n ≡ fitting output at text → record { output = o; at = r } ≡ printed output at text
 unfolding printed
 prints output o at r n text e p q = rw (p, e, q)
 
+-- the same of a page
+pub writes : (page : Page) (o : List ℕ) (n : ℕ) (text : List ℕ) → o ≡ put page.bytes.now page.at text n → n ≡ fitting page.bytes.now page.at text → record { bytes = record page.bytes { now = o }; at = page.at + n } ≡ written page text
+unfolding written
+writes page o n text e q = ap (λ (p : Printed). record { bytes = record page.bytes { now = p.output }; at = p.at }) (prints page.bytes.now o page.at (page.at + n) n text e refl q)
+
 -- nothing printed
-pub nothing : (output : List ℕ) (at : ℕ) → record { output = output; at = at } ≡ printed output at []
-nothing output at = prints output output at at 0 [] (put_none output at []) (sym (add-zero at)) (omega arith)
+pub nothing : (page : Page) → page ≡ written page []
+nothing page = ap (λ (n : ℕ). record { bytes = page.bytes; at = n }) (sym (add-zero page.at)) ∙ writes page page.bytes.now 0 [] (put_none page.bytes.now page.at []) (omega arith)
 
 -- the count takes no place that the output lacks
 fits : (output : List ℕ) (at : ℕ) (text : List ℕ) → at ≤ length output → at + fitting output at text ≤ length output
@@ -67,39 +72,25 @@ both d at s t m n p q = by (dec_le 1 n)
     by (yes h) = first_whole d at s t m n (omega arith) (omega arith) (omega arith)
     by (no h) = first_alone d at s t m n (omega arith) (omega arith)
 
--- A text printed after another is the two appended. In a run of parts each is one step
-pub then : (output : List ℕ) (at : ℕ) (s t : List ℕ) {o o' : List ℕ} {a a' : ℕ} → record { output = o; at = a } ≡ printed output at s → record { output = o'; at = a' } ≡ printed o a t → record { output = o'; at = a' } ≡ printed output at (s ++ t)
+-- A text printed after another is the two appended
+pub printed_then : (output : List ℕ) (at : ℕ) (s t : List ℕ) → printed (printed output at s).output (printed output at s).at t ≡ printed output at (s ++ t)
 unfolding printed
-then output at s t {o} {o'} {a} {a'} e f =
+printed_then output at s t =
     let m = fitting output at s in
-    let n = fitting o a t in
-    let o_is : o ≡ put output at s m = ap (λ (p : Printed). p.output) e in
-    let a-is : a ≡ at + m = ap (λ (p : Printed). p.at) e in
-    let long : length o ≡ length output = rw o_is (length_printed output at s) in
+    let o = put output at s m in
+    let n = fitting o (at + m) t in
+    let long : length o ≡ length output = length_printed output at s in
     let left : n ≡ min (length t) (length output - at - m) = omega arith in
-    prints output o' at a' (m + n) (s ++ t)
-    (ap (λ (p : Printed). p.output) f ∙ ap₂ (λ (x : List ℕ) (k : ℕ). put x k t n) o_is a-is ∙ both output at s t m n refl left)
-    (ap (λ (p : Printed). p.at) f ∙ ap (λ (k : ℕ). k + n) a-is ∙ add_assoc at m n)
+    prints output (put o (at + m) t n) at (at + m + n) (m + n) (s ++ t)
+    (both output at s t m n refl left)
+    (add_assoc at m n)
     (one_count (length output - at) (length s) (length t) m n refl left ∙ rw length-append refl)
 
--- the rest of a text after its start is printed
-pub after : (output : List ℕ) (at : ℕ) (s t : List ℕ) {o : List ℕ} {a : ℕ} → record { output = o; at = a } ≡ printed output at s → printed o a t ≡ printed output at (s ++ t)
-after output at s t {o} {a} e = then output at s t {o = o} {o' = (printed o a t).output} {a = a} {a' = (printed o a t).at} e refl
+-- The same of a page. In a run of parts each is one step
+pub then : (page : Page) (s t : List ℕ) → written (written page s) t ≡ written page (s ++ t)
+unfolding written
+then page s t = ap (λ (p : Printed). record { bytes = record page.bytes { now = p.output }; at = p.at }) (printed_then page.bytes.now page.at s t)
 
 -- a text that has another form
-pub same_text : (output : List ℕ) (at : ℕ) (s t : List ℕ) {o : List ℕ} {a : ℕ} → record { output = o; at = a } ≡ printed output at s → t ≡ s → record { output = o; at = a } ≡ printed output at t
-same_text output at s t e q = rw q e
-
-pub byte_is : (output : List ℕ) (at v w : ℕ) {o : List ℕ} {a : ℕ} → record { output = o; at = a } ≡ printed output at (v ∷ []) → v ≡ w → record { output = o; at = a } ≡ printed output at (w ∷ [])
-byte_is output at v w e q = rw (← q) e
-
--- a store is a paste of one byte
-set-put : (d : List ℕ) (at value : ℕ) → at < length d → set d at value ≡ put d at (value ∷ []) 1
-set-put d at value h = set_split d at value h ∙ sym (append_snoc (take at d) value (drop (suc at) d)) ∙ rw (← add-one at) (sym (opened d at (value ∷ []) 1))
-
--- one byte, where there is room and where there is none
-pub byte_stored : (output : List ℕ) (at value : ℕ) → at < length output → record { output = set output at value; at = at + 1 } ≡ printed output at (value ∷ [])
-byte_stored output at value h = prints output _ at _ 1 (value ∷ []) (set-put output at value h) refl (omega arith)
-
-pub byte_cut : (output : List ℕ) (at value : ℕ) → length output ≤ at → record { output = output; at = at } ≡ printed output at (value ∷ [])
-byte_cut output at value h = prints output output at at 0 (value ∷ []) (put_none output at (value ∷ [])) (sym (add-zero at)) (omega arith)
+pub same_text : (page p : Page) (s t : List ℕ) → p ≡ written page s → t ≡ s → p ≡ written page t
+same_text page p s t e q = rw q e

@@ -2,8 +2,7 @@
 -- Assumes nothing.
 use Rattle.std.specs.Prelude.{ℕ, List, [], ◌∷◌, ◌++◌, eqb}
 use Rattle.laws.specs.Pick.{pick}
-use Rattle.card.specs.declared.Answer.{Answer}
-use Rattle.card.specs.Answers.{Said, said}
+use Rattle.card.specs.Answers.{Said, Answer, said}
 use Rattle.text.specs.Words.{ascii}
 use Rattle.text.specs.Numbers.{decimal_of}
 

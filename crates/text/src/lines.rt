@@ -1,121 +1,109 @@
-// The lines, each with its newline.
+// The lines, each with its newline. `session_line`, `writer_end` and `reader_end` are alike in shape
+// alone: other words, and hex where another has a number.
 ghost use Rattle.std.specs.Prelude.{◌≡◌};
 ghost use Rattle.card.specs.Answers.{said};
-ghost use Rattle.text.specs.Printed.{printed};
+ghost use Rattle.text.specs.Printed.{written};
 ghost use Rattle.text.specs.Lines.{session_line, call_of, writer_calls, writer_line, reader_line, writer_end, reader_end, judge_possible, judge_impossible, judge_refused, session_refused};
 
-use crate::{Name, parts};
+use crate::{Name, Page};
 use card::Answer;
 
-// `session K capacity C`
-pub fn session(output: &mut [u8], at: usize, kind: usize, capacity: usize) -> usize
-    ensures { record { output = output.new; at = result } ≡ printed output.old at (session_line kind capacity) }
-{
-    let next = parts::say_number(output, at, b"session ", kind);
-    let next = parts::say_number(output, next, b" capacity ", capacity);
-    parts::say(output, next, b"\n")
-}
+#[tactic(auto, using(crate::proofs::Prints::then), unfolding(crate::specs::Answers::answer_of, crate::specs::Lines::session_line, crate::specs::Lines::call_of, crate::specs::Lines::writer_calls, crate::specs::Lines::writer_line, crate::specs::Lines::reader_line, crate::specs::Lines::writer_end, crate::specs::Lines::reader_end, crate::specs::Lines::judge_possible, crate::specs::Lines::judge_impossible, crate::specs::Lines::judge_refused, crate::specs::Lines::session_refused))]
+impl Page<'_> {
+    // `session K capacity C`; K is printed for any number.
+    pub fn session_line(&mut self, kind: usize, capacity: usize)
+        ensures { self.new ≡ written self.old (session_line kind capacity) }
+    {
+        self.say_number(b"session ", kind);
+        self.say_number(b" capacity ", capacity);
+        self.say(b"\n");
+    }
 
-// `NAME ANSWER`, with which a call's line opens.
-fn call(output: &mut [u8], at: usize, name: Name, answer: Answer) -> usize
-    ensures { record { output = output.new; at = result } ≡ printed output.old at (call_of name (said answer)) }
-{
-    let next = parts::name(output, at, name);
-    let next = parts::say(output, next, b" ");
-    parts::answer(output, next, answer)
-}
+    // `NAME ANSWER`, with which a call's line opens.
+    fn call(&mut self, name: Name, answer: Answer)
+        ensures { self.new ≡ written self.old (call_of name (said answer)) }
+    {
+        self.name(name);
+        self.say(b" ");
+        self.answer(answer);
+    }
 
-// ` calls C` of a writer's line.
-fn writer_calls(output: &mut [u8], at: usize, calls: usize) -> usize
-    ensures { record { output = output.new; at = result } ≡ printed output.old at (writer_calls calls) }
-{
-    parts::say_number(output, at, b" calls ", calls)
-}
+    // `NAME ANSWER calls C held H out O`
+    pub fn writer_line(&mut self, name: Name, answer: Answer, calls: usize, held: usize, out: usize)
+        ensures { self.new ≡ written self.old (writer_line name (said answer) calls held out) }
+    {
+        self.call(name, answer);
+        self.say_number(b" calls ", calls);
+        self.say_number(b" held ", held);
+        self.say_number(b" out ", out);
+        self.say(b"\n");
+    }
 
-// `NAME ANSWER calls C held H out O`
-pub fn writer(
-    output: &mut [u8],
-    at: usize,
-    name: Name,
-    answer: Answer,
-    calls: usize,
-    held: usize,
-    out: usize,
-) -> usize
-    ensures { record { output = output.new; at = result } ≡ printed output.old at (writer_line name (said answer) calls held out) }
-{
-    let next = call(output, at, name, answer);
-    let next = writer_calls(output, next, calls);
-    let next = parts::say_number(output, next, b" held ", held);
-    let next = parts::say_number(output, next, b" out ", out);
-    parts::say(output, next, b"\n")
-}
+    // `NAME ANSWER calls C pos P filled F bytes HEX`
+    pub fn reader_line(
+        &mut self,
+        name: Name,
+        answer: Answer,
+        calls: usize,
+        pos: usize,
+        filled: usize,
+        bytes: &[u8],
+    )
+        ensures { self.new ≡ written self.old (reader_line name (said answer) calls pos filled bytes.now) }
+    {
+        self.call(name, answer);
+        self.say_number(b" calls ", calls);
+        self.say_number(b" pos ", pos);
+        self.say_number(b" filled ", filled);
+        self.say_hex(b" bytes ", bytes);
+        self.say(b"\n");
+    }
 
-// `NAME ANSWER calls C pos P filled F bytes HEX`
-pub fn reader(
-    output: &mut [u8],
-    at: usize,
-    name: Name,
-    answer: Answer,
-    calls: usize,
-    pos: usize,
-    filled: usize,
-    bytes: &[u8],
-) -> usize
-    ensures { record { output = output.new; at = result } ≡ printed output.old at (reader_line name (said answer) calls pos filled bytes.now) }
-{
-    let next = call(output, at, name, answer);
-    let next = parts::say_number(output, next, b" calls ", calls);
-    let next = parts::say_number(output, next, b" pos ", pos);
-    let next = parts::say_number(output, next, b" filled ", filled);
-    let next = parts::say_hex(output, next, b" bytes ", bytes);
-    parts::say(output, next, b"\n")
-}
+    // `end held HEX out HEX`
+    pub fn writer_end(&mut self, held: &[u8], out: &[u8])
+        ensures { self.new ≡ written self.old (writer_end held.now out.now) }
+    {
+        self.say_hex(b"end held ", held);
+        self.say_hex(b" out ", out);
+        self.say(b"\n");
+    }
 
-// `end held HEX out HEX`
-pub fn writer_end(output: &mut [u8], at: usize, held: &[u8], out: &[u8]) -> usize
-    ensures { record { output = output.new; at = result } ≡ printed output.old at (writer_end held.now out.now) }
-{
-    let next = parts::say_hex(output, at, b"end held ", held);
-    let next = parts::say_hex(output, next, b" out ", out);
-    parts::say(output, next, b"\n")
-}
+    // `end held HEX taken N`
+    pub fn reader_end(&mut self, held: &[u8], taken: usize)
+        ensures { self.new ≡ written self.old (reader_end held.now taken) }
+    {
+        self.say_hex(b"end held ", held);
+        self.say_number(b" taken ", taken);
+        self.say(b"\n");
+    }
 
-// `end held HEX taken N`
-pub fn reader_end(output: &mut [u8], at: usize, held: &[u8], taken: usize) -> usize
-    ensures { record { output = output.new; at = result } ≡ printed output.old at (reader_end held.now taken) }
-{
-    let next = parts::say_hex(output, at, b"end held ", held);
-    let next = parts::say_number(output, next, b" taken ", taken);
-    parts::say(output, next, b"\n")
-}
+    // `judge possible`
+    pub fn judge_possible(&mut self)
+        ensures { self.new ≡ written self.old judge_possible }
+    {
+        self.say(b"judge possible\n");
+    }
 
-// `judge possible`
-pub fn judge_possible(output: &mut [u8], at: usize) -> usize
-    ensures { record { output = output.new; at = result } ≡ printed output.old at judge_possible }
-{
-    parts::say(output, at, b"judge possible\n")
-}
+    // `judge impossible`
+    pub fn judge_impossible(&mut self)
+        ensures { self.new ≡ written self.old judge_impossible }
+    {
+        self.say(b"judge impossible\n");
+    }
 
-// `judge impossible`
-pub fn judge_impossible(output: &mut [u8], at: usize) -> usize
-    ensures { record { output = output.new; at = result } ≡ printed output.old at judge_impossible }
-{
-    parts::say(output, at, b"judge impossible\n")
-}
+    // `judge refused 7 at P`
+    pub fn judge_refused(&mut self, place: usize)
+        ensures { self.new ≡ written self.old (judge_refused place) }
+    {
+        self.say_number(b"judge refused 7 at ", place);
+        self.say(b"\n");
+    }
 
-// `judge refused 7 at P`
-pub fn judge_refused(output: &mut [u8], at: usize, place: usize) -> usize
-    ensures { record { output = output.new; at = result } ≡ printed output.old at (judge_refused place) }
-{
-    let next = parts::say_number(output, at, b"judge refused 7 at ", place);
-    parts::say(output, next, b"\n")
-}
-
-// `refused 6 at P`
-pub fn session_refused(output: &mut [u8], at: usize, place: usize) -> usize
-    ensures { record { output = output.new; at = result } ≡ printed output.old at (session_refused place) }
-{
-    let next = parts::say_number(output, at, b"refused 6 at ", place);
-    parts::say(output, next, b"\n")
+    // `refused 6 at P`
+    pub fn session_refused(&mut self, place: usize)
+        ensures { self.new ≡ written self.old (session_refused place) }
+    {
+        self.say_number(b"refused 6 at ", place);
+        self.say(b"\n");
+    }
 }

@@ -1,32 +1,15 @@
-// What lines are made of: words, numbers, bytes in hex, names and answers.
+// What lines are made of: words, numbers, bytes in hex, names and answers. Digits are made here: std's
+// `write!` promises its text only where it answers Ok, and of no writer that it does; a page promises
+// its text always.
 ghost use Rattle.std.specs.Prelude.{◌≡◌, [], ◌∷◌, ◌++◌, ◌/◌, ◌%◌, ◌<◌};
-ghost use Rattle.text.specs.Printed.{printed};
+ghost use Rattle.text.specs.Printed.{written};
 ghost use Rattle.text.specs.Words.{name_of};
 ghost use Rattle.text.specs.Numbers.{digit, decimal_of, hex_digits, hex_of};
-ghost use Rattle.text.specs.Answers.{answer_of};
+ghost use Rattle.card.specs.Answers.{failed};
+ghost use Rattle.text.specs.Answers.{said_of, answer_of};
 
-use crate::Name;
-use card::{Answer, bytes};
-
-// The words as they are.
-pub fn say(output: &mut [u8], at: usize, words: &[u8]) -> usize
-    ensures { record { output = output.new; at = result } ≡ printed output.old at words.now }
-{
-    let count = bytes::least(words.len(), bytes::left(output.len(), at));
-    bytes::copy(output, at, words, count);
-    at + count
-}
-
-// One byte.
-fn byte(output: &mut [u8], at: usize, value: u8) -> usize
-    ensures { record { output = output.new; at = result } ≡ printed output.old at (value ∷ []) }
-{
-    if output.len() <= at {
-        return at;
-    }
-    output[at] = value;
-    at + 1
-}
+use crate::{Name, Page};
+use card::{Answer, Failure, bytes};
 
 // The byte of a digit.
 fn digit_byte(d: u8) -> u8
@@ -39,91 +22,125 @@ fn digit_byte(d: u8) -> u8
     b'a' + (d - 10)
 }
 
-// A number in decimal.
-pub fn decimal(output: &mut [u8], at: usize, n: usize) -> usize
-    ensures { record { output = output.new; at = result } ≡ printed output.old at (decimal_of n) }
-{
-    if n < 10 {
-        return byte(output, at, digit_byte(n as u8));
-    }
-    let next = decimal(output, at, n / 10);
-    byte(output, next, digit_byte((n % 10) as u8))
-}
-
-// The two digits of a byte.
-fn hex_byte(output: &mut [u8], at: usize, value: u8) -> usize
-    ensures { record { output = output.new; at = result } ≡ printed output.old at (digit (value / 16) ∷ digit (value % 16) ∷ []) }
-{
-    let next = byte(output, at, digit_byte(value / 16));
-    byte(output, next, digit_byte(value % 16))
-}
-
-// Two digits a byte.
-fn hex_digits(output: &mut [u8], at: usize, shown: &[u8]) -> usize
-    ensures { record { output = output.new; at = result } ≡ printed output.old at (hex_digits shown.now) }
-{
-    let mut next = at;
-    let mut i = 0;
-    while i < shown.len() {
-        next = hex_byte(output, next, shown[i]);
-        i += 1;
-    }
-    next
-}
-
-// Bytes in hex.
-pub fn hex(output: &mut [u8], at: usize, shown: &[u8]) -> usize
-    ensures { record { output = output.new; at = result } ≡ printed output.old at (hex_of shown.now) }
-{
-    if shown.len() == 0 {
-        return say(output, at, b"-");
-    }
-    hex_digits(output, at, shown)
-}
-
-// Words, and a number in decimal after them.
-pub fn say_number(output: &mut [u8], at: usize, words: &[u8], n: usize) -> usize
-    ensures { record { output = output.new; at = result } ≡ printed output.old at (words.now ++ decimal_of n) }
-{
-    let next = say(output, at, words);
-    decimal(output, next, n)
-}
-
-// Words, and bytes in hex after them.
-pub fn say_hex(output: &mut [u8], at: usize, words: &[u8], shown: &[u8]) -> usize
-    ensures { record { output = output.new; at = result } ≡ printed output.old at (words.now ++ hex_of shown.now) }
-{
-    let next = say(output, at, words);
-    hex(output, next, shown)
-}
-
-// The name of a call.
-pub fn name(output: &mut [u8], at: usize, name: Name) -> usize
-    ensures { record { output = output.new; at = result } ≡ printed output.old at (name_of name) }
-{
-    match name {
-        Name::Write => say(output, at, b"write"),
-        Name::WriteAll => say(output, at, b"write_all"),
-        Name::Flush => say(output, at, b"flush"),
-        Name::Read => say(output, at, b"read"),
-        Name::Peek => say(output, at, b"peek"),
-        Name::Consume => say(output, at, b"consume"),
-        Name::SeekRelative => say(output, at, b"seek_relative"),
-        Name::Fill => say(output, at, b"fill"),
+impl Name {
+    // The name in words.
+    fn words(self) -> &'static [u8]
+        ensures { result.now ≡ name_of self }
+    {
+        match self {
+            Name::Write => b"write",
+            Name::WriteAll => b"write_all",
+            Name::Flush => b"flush",
+            Name::Read => b"read",
+            Name::Peek => b"peek",
+            Name::Consume => b"consume",
+            Name::SeekRelative => b"seek_relative",
+            Name::Fill => b"fill",
+        }
     }
 }
 
-// An answer.
-pub fn answer(output: &mut [u8], at: usize, answer: Answer) -> usize
-    ensures { record { output = output.new; at = result } ≡ printed output.old at (answer_of answer) }
-{
-    match answer {
-        Answer::Ok(n) => say_number(output, at, b"ok ", n),
-        Answer::Done => say(output, at, b"ok"),
-        Answer::Interrupted => say(output, at, b"interrupted"),
-        Answer::Zero => say(output, at, b"zero"),
-        Answer::Whole => say(output, at, b"whole"),
-        Answer::Error(code) => say_number(output, at, b"error ", code as usize),
-        Answer::Refused(number) => say_number(output, at, b"refused ", number as usize),
+#[tactic(auto, using(crate::proofs::Prints::then))]
+impl Page<'_> {
+    // The words as they are.
+    pub fn say(&mut self, words: &[u8])
+        ensures { self.new ≡ written self.old words.now }
+    {
+        let room = self.bytes.len().saturating_sub(self.at);
+        let count = words.len().min(room);
+        bytes::copy(self.bytes, self.at, words, count);
+        self.at += count;
+    }
+
+    // A digit.
+    fn digit(&mut self, d: u8)
+        requires { d < 16 }
+        ensures { self.new ≡ written self.old (digit d ∷ []) }
+    {
+        self.say(&[digit_byte(d)]);
+    }
+
+    // A number in decimal. It calls itself on the tenth part: so it needs no buffer, as the crate
+    // `itoa` would, and its two cases are the definition's.
+    #[tactic(auto, using(crate::proofs::Decimals::prints_one, crate::proofs::Decimals::prints_more))]
+    pub fn decimal(&mut self, n: usize)
+        ensures { self.new ≡ written self.old (decimal_of n) }
+    {
+        if 10 <= n {
+            self.decimal(n / 10);
+        }
+        self.digit((n % 10) as u8);
+    }
+
+    // Two digits a byte.
+    #[tactic(auto, using(crate::proofs::Hexes::again, crate::proofs::Hexes::finish))]
+    fn hex_digits(&mut self, shown: &[u8])
+        ensures { self.new ≡ written self.old (hex_digits shown.now) }
+    {
+        for byte in shown {
+            self.digit(byte / 16);
+            self.digit(byte % 16);
+        }
+    }
+
+    // Bytes in hex.
+    #[tactic(auto, using(crate::proofs::Hexes::none, crate::proofs::Hexes::some))]
+    pub fn hex(&mut self, shown: &[u8])
+        ensures { self.new ≡ written self.old (hex_of shown.now) }
+    {
+        if shown.is_empty() {
+            self.say(b"-");
+            return;
+        }
+        self.hex_digits(shown);
+    }
+
+    // Words, and a number in decimal after them.
+    pub fn say_number(&mut self, words: &[u8], n: usize)
+        ensures { self.new ≡ written self.old (words.now ++ decimal_of n) }
+    {
+        self.say(words);
+        self.decimal(n);
+    }
+
+    // Words, and bytes in hex after them.
+    pub fn say_hex(&mut self, words: &[u8], shown: &[u8])
+        ensures { self.new ≡ written self.old (words.now ++ hex_of shown.now) }
+    {
+        self.say(words);
+        self.hex(shown);
+    }
+
+    // The name of a call.
+    pub fn name(&mut self, name: Name)
+        ensures { self.new ≡ written self.old (name_of name) }
+    {
+        self.say(name.words());
+    }
+
+    // A failure's word, and its value after it.
+    #[tactic(auto, using(crate::proofs::Saids::failures))]
+    fn failure(&mut self, failure: Failure)
+        ensures { self.new ≡ written self.old (said_of (failed failure)) }
+    {
+        match failure {
+            Failure::Interrupted => self.say(b"interrupted"),
+            Failure::Zero => self.say(b"zero"),
+            Failure::Whole => self.say(b"whole"),
+            Failure::Error(code) => self.say_number(b"error ", code as usize),
+            Failure::Refused(number) => self.say_number(b"refused ", number as usize),
+        }
+    }
+
+    // An answer.
+    #[tactic(auto, using(crate::proofs::Saids::answers))]
+    pub fn answer(&mut self, answer: Answer)
+        ensures { self.new ≡ written self.old (answer_of answer) }
+    {
+        match answer {
+            Ok(Some(n)) => self.say_number(b"ok ", n),
+            Ok(None) => self.say(b"ok"),
+            Err(failure) => self.failure(failure),
+        }
     }
 }

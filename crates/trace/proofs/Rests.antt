@@ -13,14 +13,14 @@ use Rattle.laws.specs.Pick.{pick}
 use Rattle.laws.proofs.Picks.{pick_holds}
 use Rattle.card.specs.Answers.{Said}
 use Rattle.card.specs.Limits.{bytes_most, capacity_most}
-use Rattle.numbers.specs.Number.{number_most}
-use Rattle.numbers.proofs.Most.{most_value, most_places, after_holds}
+use Rattle.std.specs.Prelude.{Result, Ok, Err}
+use Rattle.numbers.specs.declared.Fault.{Fault}
+use Rattle.numbers.specs.Number.{fault_at, number_most, length_most}
+use Rattle.numbers.proofs.Back.{same_place}
+use Rattle.numbers.proofs.Most.{most_value, most_places, length_within, after_holds}
 use Rattle.trace.specs.declared.Claim.{Claim}
 use Rattle.trace.specs.declared.TracedCall.{TracedCall}
-use Rattle.trace.specs.declared.CallRead.{CallRead}
-use Rattle.trace.specs.declared.CallRead.TheVariants.{Call, Fault as NoCall}
 use Rattle.trace.specs.declared.Header.{Header}
-use Rattle.trace.specs.declared.Checked.TheVariants.{Whole, Fault}
 use Rattle.trace.specs.Claims.{claimed}
 use Rattle.trace.specs.Calls.{Told, wrote, flushed, told, written, call_at}
 use Rattle.trace.specs.Trace.{calls_most, Parsed, fault, trace, before, after_call, card_at, calls_from, count_at, trace_of, checked}
@@ -33,27 +33,17 @@ pub record Held (p : Parsed) (header : Header) : Type 0 where
   pub card : List ℕ
   pub is : p ≡ trace header calls card
 
-pub held : (p : Parsed) (header : Header) → Whole header ≡ checked p → Held p header
-held (fault place) header e =
-    let z : ◌≡◌ {A = ℕ} 0 1 = cc in
-    absurd (omega arith)
+pub held : (p : Parsed) (header : Header) → Ok header ≡ checked p → Held p header
+held (fault place) header e = absurd (cc)
 held (trace h calls card) header e =
     let q : h ≡ header = cc in
     record { calls = calls; card = card; is = ap (λ (x : Header). trace x calls card) q }
 
-pub refused : (p : Parsed) (place : ℕ) → Fault place ≡ checked p → p ≡ fault place
+pub refused : (p : Parsed) (place : ℕ) → fault_at place ≡ checked p → p ≡ fault place
 refused (fault q) place e =
-    let s : q ≡ place = cc in
+    let s : q ≡ place = sym (same_place place q e) in
     ap (λ (x : ℕ). fault x) s
-refused (trace h calls card) place e =
-    let z : ◌≡◌ {A = ℕ} 0 1 = cc in
-    absurd (omega arith)
-
--- a fault is no trace
-no_trace : (place : ℕ) (header : Header) (calls : List Told) (card : List ℕ) → fault place ≡ trace header calls card → ⊥
-no_trace place header calls card e =
-    let z : ◌≡◌ {A = ℕ} 0 1 = cc in
-    omega arith
+refused (trace h calls card) place e = absurd (cc)
 
 -- a claim that a call of this kind can make, as the trace says it
 pub record FairSaid (flush : Bool) (said : Said) : Type 0 where
@@ -105,27 +95,26 @@ GoodRest t capacity count first left total (trace header calls card) = Rest t ca
 card_good : (t : List ℕ) (capacity count first total at : ℕ) → GoodRest t capacity count first 0 total (card_at t capacity count first at)
 unfolding card_at written
 card_good t capacity count first total at =
-    after_holds (GoodRest t capacity count first 0 total) (number_most t at bytes_most) fault _ (λ p e. tt)
+    after_holds (GoodRest t capacity count first 0 total) (length_most t at bytes_most) fault _ (λ p e. tt)
     (λ n card e.
-    let w = most_places t at bytes_most n card e in
-    pick_holds (GoodRest t capacity count first 0 total) (ltb (length t - card) n) _ _ (λ _. tt)
-    (λ s. pick_holds (GoodRest t capacity count first 0 total) (ltb n (length t - card)) _ _ (λ _. tt)
+    let w = length_within t at bytes_most n card e in
+    pick_holds (GoodRest t capacity count first 0 total) (ltb (card + n) (length t)) _ _ (λ _. tt)
     (λ m. record {
       capacity_is = refl;
       count_is = refl;
       first_is = refl;
       card_is = refl;
-      card_ends = omega (arith, ltb-false (length t - card) n s, ltb-false n (length t - card) m);
-      card_most = (most_value t at bytes_most n card e).1;
+      card_ends = omega (arith, w.ends, ltb-false (card + n) (length t) m);
+      card_most = w.small;
       calls_are = refl;
       fair = tt;
       total_most = λ h. omega arith;
-    })))
+    }))
 
 -- what holds at a fault, and at any call, holds of what comes after the call
-pub call_holds : (P : Parsed → Type 0) (r : CallRead) (good : TracedCall → Parsed) → ((place : ℕ) → r ≡ NoCall place → P (fault place)) → ((call : TracedCall) → r ≡ Call call → P (good call)) → P (after_call r good)
-call_holds P (NoCall place) good f g = f place refl
-call_holds P (Call call) good f g = g call refl
+pub call_holds : (P : Parsed → Type 0) (r : Result TracedCall Fault) (good : TracedCall → Parsed) → ((place : ℕ) → r ≡ fault_at place → P (fault place)) → ((call : TracedCall) → r ≡ Ok call → P (good call)) → P (after_call r good)
+call_holds P (Err e) good f g = f e.place refl
+call_holds P (Ok call) good f g = g call refl
 
 -- one call more, in front
 before_good : (t : List ℕ) (capacity count first left total at : ℕ) (call : TracedCall) (p : Parsed) → CallWithin t total at call → GoodRest t capacity count first left (total + call.length) p → GoodRest t capacity count first (suc left) total (before (told t call) p)
@@ -188,9 +177,9 @@ whole_count t capacity count first header calls card hc hk hf e =
 pub whole : (t : List ℕ) (header : Header) (calls : List Told) (card : List ℕ) → trace_of t ≡ trace header calls card → Trace t header calls card
 unfolding trace_of count_at
 whole t header calls card =
-    after_holds (λ p. p ≡ trace header calls card → Trace t header calls card) (number_most t 0 capacity_most) fault _ (λ p e q. absurd (no_trace p header calls card q))
+    after_holds (λ p. p ≡ trace header calls card → Trace t header calls card) (number_most t 0 capacity_most) fault _ (λ p e q. absurd (cc))
     (λ capacity next e.
-    after_holds (λ p. p ≡ trace header calls card → Trace t header calls card) (number_most t next calls_most) fault _ (λ p e q. absurd (no_trace p header calls card q))
+    after_holds (λ p. p ≡ trace header calls card → Trace t header calls card) (number_most t next calls_most) fault _ (λ p e q. absurd (cc))
     (λ count first k q. whole_count t capacity count first header calls card (most_value t 0 capacity_most capacity next e).1 (most_value t next calls_most count first k).1 (most_places t next calls_most count first k).1 q))
 
 module _ (t : List ℕ) (capacity count first : ℕ) (left total at : ℕ) (header : Header) (calls : List Told) (card : List ℕ) (e : calls_from t capacity count first left total at ≡ trace header calls card) where
@@ -200,18 +189,18 @@ module _ (t : List ℕ) (capacity count first : ℕ) (left total at : ℕ) (head
     pub front : calls ≡ told t call ∷ later
     pub goes : calls_from t capacity count first (left - 1) (total + call.length) call.next ≡ trace header later card
 
-  pub next : (call : TracedCall) → call_at t total at ≡ Call call → 0 < left → Next call
+  pub next : (call : TracedCall) → call_at t total at ≡ Ok call → 0 < left → Next call
   next call q h = by (calls_from t capacity count first (left - 1) (total + call.length) call.next) refl (sym (one_call t capacity count first left total at call q h) ∙ e)
     where
       by : (p : Parsed) → calls_from t capacity count first (left - 1) (total + call.length) call.next ≡ p → before (told t call) p ≡ trace header calls card → Next call
-      by (fault place) r s = absurd (no_trace place header calls card s)
+      by (fault place) r s = absurd (cc)
       by (trace h later c) r s =
           let hh : h ≡ header = cc in
           let hc : c ≡ card = cc in
           record { later = later; front = cc; goes = cc }
 
-  pub no_fault : (place : ℕ) → call_at t total at ≡ NoCall place → 0 < left → ⊥
-  no_fault place q h = no_trace place header calls card (sym (no_call t capacity count first left total at place q h) ∙ e)
+  pub no_fault : (f : Fault) → call_at t total at ≡ Err f → 0 < left → ⊥
+  no_fault f q h = let stops = no_call t capacity count first left total at f q h in cc
 
   -- at the end there are no calls left
   pub last : left ≤ 0 → calls ≡ []

@@ -4,7 +4,7 @@ use mathlib.Core.Path.{◌≡◌, refl}
 use mathlib.Core.List.{List, [], ◌∷◌}
 use Prim.Native.Nat.{ℕ}
 use Rattle.card.specs.Answers.{ok, error}
-use Rattle.numbers.specs.Number.{ended, groups_from, number_of, number, within, number_most}
+use Rattle.numbers.specs.Number.{ended, groups_from, number_of, number, within, number_most, length_most}
 use Rattle.trace.specs.Claims.{ok_at, error_at, claim_of, claim_at}
 use Rattle.trace.specs.Calls.{wrote, flushed, traced, write_at, call_at}
 use Rattle.trace.specs.Trace.{Parsed, fault, trace, card_at, calls_from, count_at, trace_of}
@@ -46,5 +46,5 @@ Hold [] = Unit
 Hold (row ∷ rest) = (trace_of row.bytes ≡ row.says) × Hold rest
 
 pub rows_hold : Hold rows
-unfolding trace_of count_at calls_from card_at call_at write_at traced claim_at claim_of error_at ok_at number_most within number number_of groups_from ended
+unfolding trace_of count_at calls_from card_at call_at write_at traced claim_at claim_of error_at ok_at length_most number_most within number number_of groups_from ended
 rows_hold = (refl, (refl, (refl, (refl, (refl, (refl, (refl, (refl, (refl, (refl, (refl, (refl, (refl, (refl, tt))))))))))))))

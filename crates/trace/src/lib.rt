@@ -1,14 +1,15 @@
 // Traces: what a person hands to the judge. A trace is read left to right, with the place of its
-// first fault, and without memory for its calls: `whole::check` reads it all, `calls::read_call`
-// reads one call again.
+// first fault (refusal 7), and without memory for its calls: `whole::check` reads it all,
+// `calls::read_call` reads one call again.
 #![tactic(auto)]
 
 pub mod calls;
 mod claims;
 pub mod whole;
 
-// The answer that a traced call claims. Ok has its count for a write; a flush is Done.
-#[derive(Clone, Copy)]
+// The answer that a traced call claims. Ok has its count for a write; a flush is Done. It is no
+// `card::Answer`: a trace can claim neither whole nor refused.
+#[derive(Clone, Copy, Debug, PartialEq, Eq)]
 pub enum Claim {
     Ok(usize),
     Done,
@@ -17,16 +18,12 @@ pub enum Claim {
     Error(u32),
 }
 
-// A claimed answer with the place after it, or the place of a fault.
-#[derive(Clone, Copy)]
-pub enum ClaimRead {
-    Claimed(Claim, usize),
-    Fault(usize),
-}
-
 // One call of a trace. The bytes of a write are the trace's `length` bytes from place `start` on;
-// a flush has none. It carries its claimed answer. `next` is the place after it.
-#[derive(Clone, Copy)]
+// a flush has none. It carries its claimed answer. `next` is the place after it. All are places and
+// lengths, as `calls::read_call` promises them.
+// The flag stays beside the length: whoever counts bytes takes the length of any call, and whoever
+// judges a claim the flag, so an enum with the bytes inside would be matched for either.
+#[derive(Clone, Copy, Debug, PartialEq, Eq)]
 pub struct TracedCall {
     pub flush: bool,
     pub start: usize,
@@ -35,27 +32,14 @@ pub struct TracedCall {
     pub next: usize,
 }
 
-// A call, or the place of a fault.
-#[derive(Clone, Copy)]
-pub enum CallRead {
-    Call(TracedCall),
-    Fault(usize),
-}
-
 // What a whole trace holds beside its calls: the capacity, how many calls there are and where the
-// first stands, and where the card's bytes stand and how many they are.
-#[derive(Clone, Copy)]
+// first stands, and where the card's bytes stand and how many they are. Places, since nothing is kept
+// of the calls.
+#[derive(Clone, Copy, Debug, PartialEq, Eq)]
 pub struct Header {
     pub capacity: usize,
     pub count: usize,
     pub first: usize,
     pub card: usize,
     pub length: usize,
-}
-
-// A trace without a fault, or the place of its first fault (refusal 7).
-#[derive(Clone, Copy)]
-pub enum Checked {
-    Whole(Header),
-    Fault(usize),
 }

@@ -7,38 +7,37 @@ use native.Mathlib.Omega.{arith}
 use lib.ListN.{length, length-drop}
 use lib.Dec.{leb, ltb}
 use Rattle.laws.proofs.Picks.{pick_holds}
-use Rattle.card.specs.declared.Reply.{Reply}
-use Rattle.card.specs.declared.Reply.TheVariants.{Accept, Interrupted, Error}
 use Rattle.card.specs.Answers.{Said, ok, done}
 use Rattle.card.specs.Limits.{length_refusal}
-use Rattle.card.specs.Device.{exchange}
+use Rattle.card.specs.Device.{exchange, Reply}
 use Rattle.card.proofs.Replies.{takes_fit}
 use Rattle.card.proofs.Ends.{ended, ended_by, exchange_counts}
-use Rattle.flushing.specs.declared.Outcome.{Outcome}
-use Rattle.flushing.specs.declared.Outcome.TheVariants.{Done, Zero, Failed}
 use Rattle.flushing.specs.declared.State.{State}
 use Rattle.flushing.specs.World.{World, Called, capacity, spare, room, replies, world_of, reported}
-use Rattle.flushing.specs.Send.{whole_said, write_said, flush_reply_said, send_from}
+use Rattle.flushing.specs.Send.{whole_said, write_said, flush_reply_said, send_from, Outcome}
 use Rattle.flushing.proofs.Sends.{within}
 use Rattle.flushing.proofs.Counts.{ended_out, Counts, send_counts, Reports, CountsCalls, flush_buf_counts, nothing_counts, then_counts, refusing_counts, Uses, flush_buf_uses, then_uses}
 use Rattle.writer.specs.Writer.{device_write, device_write_all, stored, placed, readied, cold, written, write, write_all, device_flush, flush, write_call, write_all_call, flush_call}
+use Rattle.std.specs.Prelude.{Ok, Err}
+use Rattle.card.specs.declared.DeviceError.TheVariants.{Interrupted, Error}
+use Rattle.flushing.specs.declared.Stop.TheVariants.{Zero, Failed}
 
 -- ---- the parts of a call, from world w
 
 whole_ended : (o : Outcome) → ended (whole_said o) ≡ ended_out o
-whole_ended Done = refl
-whole_ended Zero = refl
-whole_ended (Failed code) = refl
+whole_ended (Ok nothing) = refl
+whole_ended (Err Zero) = refl
+whole_ended (Err (Failed code)) = refl
 
 write_ended : (r : Reply) → ended (write_said r) ≡ ended_by r
-write_ended (Accept n) = refl
-write_ended Interrupted = refl
-write_ended (Error code) = refl
+write_ended (Ok n) = refl
+write_ended (Err Interrupted) = refl
+write_ended (Err (Error code)) = refl
 
 flush_reply_ended : (r : Reply) → ended (flush_reply_said r) ≡ ended_by r
-flush_reply_ended (Accept n) = refl
-flush_reply_ended Interrupted = refl
-flush_reply_ended (Error code) = refl
+flush_reply_ended (Ok n) = refl
+flush_reply_ended (Err Interrupted) = refl
+flush_reply_ended (Err (Error code)) = refl
 
 pub device_write_counts : (script : List ℕ) (w : World) (s : List ℕ) → Reports w (device_write script w s)
 unfolding device_write Reports
@@ -84,11 +83,11 @@ flush_counts script w = then_counts w _ _ (flush_buf_counts script w) (λ v. dev
 
 -- ---- so they make few of them
 
-device_write_uses : (script : List ℕ) (w : World) (s : List ℕ) → Uses script w (device_write script w s)
+pub device_write_uses : (script : List ℕ) (w : World) (s : List ℕ) → Uses script w (device_write script w s)
 unfolding device_write Uses exchange
 device_write_uses script w s h = takes_fit script w.used h
 
-device_write_all_uses : (script : List ℕ) (w : World) (s : List ℕ) → Uses script w (device_write_all script w s)
+pub device_write_all_uses : (script : List ℕ) (w : World) (s : List ℕ) → Uses script w (device_write_all script w s)
 unfolding device_write_all Uses
 device_write_all_uses script w s h =
     let left : length (replies script w) ≡ length script - w.used = length-drop w.used script in

@@ -1,6 +1,6 @@
 -- What `write_all` leaves: as much storage and medium, and where it succeeds a fit world, in which a next step can go on.
 -- Assumes nothing.
-use mathlib.Core.Path.{◌≡◌, refl, ◌∙◌}
+use mathlib.Core.Path.{◌≡◌, refl, ap, ◌∙◌}
 use mathlib.Core.Bool.{true}
 use mathlib.Core.List.{List}
 use Prim.Native.Nat.{ℕ, ◌+◌, ◌-◌, ◌≤◌}
@@ -8,17 +8,17 @@ use native.Mathlib.Omega.{arith}
 use lib.ListN.{length, length-drop}
 use Rattle.laws.proofs.Puts.{length-put}
 use Rattle.card.specs.Answers.{Said, done}
-use Rattle.flushing.specs.declared.Outcome.{Outcome}
-use Rattle.flushing.specs.declared.Outcome.TheVariants.{Done, Zero, Failed}
 use Rattle.flushing.specs.declared.Sent.{Sent}
 use Rattle.flushing.specs.World.{World, Called, Fit, room, replies, is_ok}
-use Rattle.flushing.specs.Send.{whole_said}
+use Rattle.flushing.specs.Send.{whole_said, Outcome}
 use Rattle.flushing.specs.Flush.{flush_buf}
 use Rattle.writer.specs.Writer.{stored, taken_by, device_write_all, write_all}
 use Rattle.flushing.proofs.Sends.{Within, within}
-use Rattle.flushing.proofs.Flushes.{keeps}
+use Rattle.flushing.proofs.Flushes.{keeps, fit_after}
 use Rattle.flushing.proofs.Cases.{flush_ok_done}
 use Rattle.writer.proofs.Cases.{written_cases, placed_by}
+use Rattle.std.specs.Prelude.{Ok, Err}
+use Rattle.flushing.specs.declared.Stop.TheVariants.{Zero, Failed}
 
 pub record Goes (script : List ℕ) (w : World) (c : Called) : Type 0 where
   pub fit : is_ok c.answer ≡ true → Fit script c.world
@@ -26,12 +26,12 @@ pub record Goes (script : List ℕ) (w : World) (c : Called) : Type 0 where
   pub storage_long : length c.world.storage ≡ length w.storage
   pub medium_long : length c.world.medium ≡ length w.medium
 
-whole_done : (o : Outcome) → is_ok (whole_said o) ≡ true → o ≡ Done
-whole_done Done e = refl
-whole_done Zero e =
+whole_done : (o : Outcome) → is_ok (whole_said o) ≡ true → o ≡ (Ok tt)
+whole_done (Ok nothing) e = refl
+whole_done (Err Zero) e =
     let z : ◌≡◌ {A = ℕ} 0 1 = cc in
     absurd (omega arith)
-whole_done (Failed code) e =
+whole_done (Err (Failed code)) e =
     let z : ◌≡◌ {A = ℕ} 0 1 = cc in
     absurd (omega arith)
 
@@ -82,3 +82,14 @@ write_all_goes script w s fit =
   where
     stopped_fails : (script' : List ℕ) (v : World) → ((flush_buf script' v).answer ≡ done → ⊥) → is_ok (flush_buf script' v).answer ≡ true → ⊥
     stopped_fails script' v e o = e (flush_ok_done script' v o)
+
+-- the flush of the buffer leaves as much
+pub flush_goes : (script : List ℕ) (w : World) → Fit script w → Goes script w (flush_buf script w)
+flush_goes script w fit =
+    let k = keeps script w fit in
+    record {
+      fit = λ o. (fit_after script w (flush_buf script w).world fit (ap (λ (a : Said). record { answer = a; world = (flush_buf script w).world }) (flush_ok_done script w o))).0;
+      flushes = k.flushes_same;
+      storage_long = k.storage_long;
+      medium_long = k.medium_long;
+    }

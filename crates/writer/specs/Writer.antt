@@ -1,6 +1,6 @@
 -- Module 3, the buffered writer: what each call does where it meets no refusal, and what it promises on every input.
 -- Assumes nothing.
-use Rattle.std.specs.Prelude.{ℕ, ◌+◌, min, Bool, List, length, leb, ltb}
+use Rattle.std.specs.Prelude.{ℕ, ◌+◌, min, List, length, leb, ltb}
 use Rattle.laws.specs.Pick.{pick}
 use Rattle.card.specs.Answers.{Said, ok, done}
 use Rattle.card.specs.Limits.{length_refusal}
@@ -86,12 +86,3 @@ write_all_call script w s = refusing script w (length_refusal (length s)) (λ v.
 
 unfoldable pub flush_call : List ℕ → World → Called
 flush_call script w = refusing script w 0 (λ v. flush script v)
-
--- ---- how the code says it, which has one way past the buffer for both
-
--- by whether it is `write_all`: what a stored slice answers, and the device write
-abbrev pub stored_said : Bool → ℕ → Said
-stored_said whole n = pick whole done (ok n)
-
-abbrev pub device_of : Bool → List ℕ → World → List ℕ → Called
-device_of whole script w s = pick whole (device_write_all script w s) (device_write script w s)

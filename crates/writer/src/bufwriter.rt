@@ -1,149 +1,121 @@
-// Module 3, the buffered writer: std's bufwriter.rs. Its `flush_buf` is in crate flushing.
+// Module 3, the buffered writer: std's bufwriter.rs. Its `flush_buf` is in crate flushing, with the
+// type; methods can only stand there, so what is here is functions over the lent writer.
 ghost use Rattle.std.specs.Prelude.{◌≡◌, ◌+◌, ◌≤◌, min, length, take};
-ghost use Rattle.card.specs.Answers.{said};
-ghost use Rattle.flushing.specs.World.{Fit, Sound, world_of, world_after, told, reported, fresh};
-ghost use Rattle.flushing.specs.Send.{whole_said, write_said, flush_reply_said};
-ghost use Rattle.writer.specs.Writer.{stored_said, device_of, placed, readied, cold, write_call, write_all_call, flush_call};
+ghost use Rattle.laws.specs.Put.{put};
+ghost use Rattle.card.specs.Limits.{length_refusal};
+ghost use Rattle.card.specs.Answers.{said_count, said_done};
+ghost use Rattle.flushing.specs.World.{Fit, Sound, Lent, world, counting, tells, reported, refusing, fresh};
+ghost use Rattle.flushing.specs.Send.{whole_failure};
+ghost use Rattle.writer.specs.Writer.{device_write_all, placed, readied, cold, written, write_call, write_all_call, flush_call};
 
-use card::{Answer, Reply, bytes, device, limits};
-use flushing::{Answered, Outcome, State, flush, send};
+use crate::way::Way;
+use card::{Failure, bytes, device, limits};
+use flushing::{BufWriter, State, Stop, send};
 
-// ---- the cases of an answer
+// ---- the default device write
 
-fn whole_answer(outcome: Outcome) -> Answer
-    ensures { said result ≡ whole_said outcome }
+// Why it is not done. No `From`: `Stop` has one, the flush's, and zero is another failure here. The
+// two are alike in shape alone.
+fn whole_failure(stop: Stop) -> Failure
+    ensures { result ≡ whole_failure stop }
 {
-    match outcome {
-        Outcome::Done => Answer::Done,
-        Outcome::Zero => Answer::Whole,
-        Outcome::Failed(code) => Answer::Error(code),
+    match stop {
+        Stop::Zero => Failure::Whole,
+        Stop::Failed(code) => Failure::Error(code),
     }
 }
 
-fn write_answer(reply: Reply) -> Answer
-    ensures { said result ≡ write_said reply }
+// Past the buffer, whatever it holds: the slice is offered to the device until all of it is taken.
+// It refuses nothing.
+pub fn device_write_all(w: &mut BufWriter<'_, '_>, slice: &[u8]) -> Result<(), Failure>
+    ensures lent { Lent w.old w.new }
+    ensures told { tells (said_done result) w.new ≡ reported (device_write_all w.old.script.now (world w.old) slice.now) }
 {
-    match reply {
-        Reply::Accept(n) => Answer::Ok(n),
-        Reply::Interrupted => Answer::Interrupted, // handed up, not retried
-        Reply::Error(code) => Answer::Error(code),
-    }
+    let run = send::send_all(slice, w.script, w.state.used, w.medium, w.state.out);
+    w.state.out += run.sent;
+    w.state.used = run.used;
+    w.calls = run.writes;
+    run.outcome.map_err(whole_failure)
 }
 
-fn flush_reply_answer(reply: Reply) -> Answer
-    ensures { said result ≡ flush_reply_said reply }
-{
-    match reply {
-        Reply::Accept(_) => Answer::Done,
-        Reply::Interrupted => Answer::Interrupted,
-        Reply::Error(code) => Answer::Error(code),
-    }
-}
+// ---- a slice that does not fit with room to spare
 
-// ---- a slice that does not fit with room to spare, of `write` or, where `whole`, of `write_all`
+// `Sound`, and that the call has made no device call yet, are asked for by clauses: a type around
+// the lent writer would have to be proved again wherever the state changes, also where a call fails.
 
-fn stored_answer(whole: bool, n: usize) -> Answer
-    ensures { said result ≡ stored_said whole n }
+// The slice is kept behind the held bytes.
+fn store(w: &mut BufWriter<'_, '_>, slice: &[u8])
+    requires { w.old.state.held + length slice.now ≤ length w.old.storage.now }
+    ensures lent { Lent w.old w.new }
+    ensures kept { w.new.storage.now ≡ put w.old.storage.now w.old.state.held slice.now (length slice.now) }
+    ensures state { w.new.state ≡ record { held = w.old.state.held + length slice.now; out = w.old.state.out; used = w.old.state.used } }
+    ensures same { w.new.medium.now ≡ w.old.medium.now }
+    ensures calls { w.new.calls ≡ w.old.calls }
 {
-    if whole {
-        return Answer::Done;
-    }
-    Answer::Ok(n)
+    bytes::copy(w.storage, w.state.held, slice, slice.len());
+    w.state.held += slice.len();
 }
 
 // A slice that is stored where it is shorter than the capacity, and goes to the device where not.
-fn place(
-    state: State,
-    storage: &mut [u8],
-    script: &[u32],
-    medium: &mut [u8],
-    slice: &[u8],
-    whole: bool,
-    writes: usize,
-) -> Answered
-    requires { Fit script.now (world_after state storage.old medium.old writes) × (state.held + min (length slice.now) (length storage.old) ≤ length storage.old) }
-    ensures { told result storage.new medium.new ≡ reported (placed (stored_said whole (length slice.now)) (λ v. device_of whole script.now v slice.now) (world_after state storage.old medium.old writes) slice.now) }
+fn place<T: Way>(w: &mut BufWriter<'_, '_>, slice: &[u8]) -> Result<T, Failure>
+    requires fit { Fit w.old.script.now (counting w.old) }
+    requires room { w.old.state.held + min (length slice.now) (length w.old.storage.now) ≤ length w.old.storage.now }
+    ensures lent { Lent w.old w.new }
+    ensures told { tells (T.says result) w.new ≡ reported (placed (T.stored (length slice.now)) (λ v. T.direct w.old.script.now v slice.now) (counting w.old) slice.now) }
 {
-    let held = state.held;
-    let out = state.out;
-    let length = slice.len();
-    if length < storage.len() {
-        bytes::copy(storage, held, slice, length);
-        return Answered {
-            answer: stored_answer(whole, length),
-            calls: writes,
-            state: State {
-                held: held + length,
-                out,
-                used: state.used,
-            },
-        };
+    if slice.len() < w.storage.len() {
+        store(w, slice);
+        return Ok(T::stored(slice.len()));
     }
-    if whole {
-        let f = send::send_all(slice, script, state.used, medium, out);
-        let outcome = f.outcome;
-        return Answered {
-            answer: whole_answer(outcome),
-            calls: writes + f.writes,
-            state: State {
-                held,
-                out: out + f.sent,
-                used: f.used,
-            },
-        };
-    }
-    let e = device::write(script, state.used, slice, medium, out);
-    let reply = e.reply;
-    Answered {
-        answer: write_answer(reply),
-        calls: writes + 1,
-        state: State {
-            held,
-            out: out + device::moved(reply),
-            used: e.used,
-        },
-    }
+    T::direct(w, slice)
 }
 
 // The buffer is flushed first where so many bytes do not fit.
-fn make_room(
-    state: State,
-    storage: &mut [u8],
-    script: &[u32],
-    medium: &mut [u8],
-    length: usize,
-) -> Answered
-    requires { Sound script.now (world_of state storage.old medium.old) }
-    ensures { told result storage.new medium.new ≡ reported (readied script.now (world_of state storage.old medium.old) length) }
+fn make_room(w: &mut BufWriter<'_, '_>, length: usize) -> Result<(), Failure>
+    requires sound { Sound w.old.script.now (world w.old) }
+    requires begun { w.old.calls ≡ 0 }
+    ensures lent { Lent w.old w.new }
+    ensures told { tells (said_done result) w.new ≡ reported (readied w.old.script.now (world w.old) length) }
 {
-    if storage.len() - state.held < length {
-        return flush::flush_buf(state, storage, script, medium);
+    if w.storage.len() - w.state.held < length {
+        return w.flush_buf();
     }
-    Answered {
-        answer: Answer::Done,
-        calls: 0,
-        state,
-    }
+    Ok(())
 }
 
-fn write_cold(
-    state: State,
-    storage: &mut [u8],
-    script: &[u32],
-    medium: &mut [u8],
-    slice: &[u8],
-    whole: bool,
-) -> Answered
-    requires { Sound script.now (world_of state storage.old medium.old) }
-    ensures { told result storage.new medium.new ≡ reported (cold script.now (stored_said whole (length slice.now)) (λ v. device_of whole script.now v slice.now) (world_of state storage.old medium.old) slice.now) }
+fn cold<T: Way>(w: &mut BufWriter<'_, '_>, slice: &[u8]) -> Result<T, Failure>
+    requires sound { Sound w.old.script.now (world w.old) }
+    requires begun { w.old.calls ≡ 0 }
+    ensures lent { Lent w.old w.new }
+    ensures told { tells (T.says result) w.new ≡ reported (cold w.old.script.now (T.stored (length slice.now)) (λ v. T.direct w.old.script.now v slice.now) (world w.old) slice.now) }
 {
-    let f = make_room(state, storage, script, medium, slice.len());
-    let answer = f.answer;
-    let ready = f.state;
-    if flush::succeeded(answer) {
-        return place(ready, storage, script, medium, slice, whole, f.calls);
+    make_room(w, slice.len())?;
+    place(w, slice)
+}
+
+// A slice that is shorter than the spare is stored, and any other goes the way past the buffer.
+fn unrefused<T: Way>(w: &mut BufWriter<'_, '_>, slice: &[u8]) -> Result<T, Failure>
+    requires sound { Sound w.old.script.now (world w.old) }
+    requires begun { w.old.calls ≡ 0 }
+    ensures lent { Lent w.old w.new }
+    ensures told { tells (T.says result) w.new ≡ reported (written w.old.script.now (T.stored (length slice.now)) (λ v. T.direct w.old.script.now v slice.now) (world w.old) slice.now) }
+{
+    if slice.len() < w.storage.len() - w.state.held {
+        store(w, slice);
+        return Ok(T::stored(slice.len()));
     }
-    f
+    cold(w, slice)
+}
+
+// Either call, on every input.
+fn call<T: Way>(w: &mut BufWriter<'_, '_>, slice: &[u8]) -> Result<T, Failure>
+    ensures lent { Lent w.old w.new }
+    ensures told { tells (T.says result) w.new ≡ reported (refusing w.old.script.now (world w.old) (length_refusal (length slice.now)) (λ u. written w.old.script.now (T.stored (length slice.now)) (λ v. T.direct w.old.script.now v slice.now) u slice.now)) }
+{
+    w.calls = 0;
+    w.numbers().check()?;
+    limits::check_length(slice.len())?;
+    unrefused(w, slice)
 }
 
 // ---- the public calls
@@ -163,115 +135,32 @@ pub fn new() -> State
 pub fn buffer(state: State, storage: &[u8]) -> &[u8]
     ensures { result.now ≡ take state.held storage.now }
 {
-    let held = bytes::least(state.held, storage.len());
-    &storage[..held]
+    &storage[..state.held.min(storage.len())]
 }
 
-pub fn write(
-    state: State,
-    storage: &mut [u8],
-    script: &[u32],
-    medium: &mut [u8],
-    slice: &[u8],
-) -> Answered
-    ensures { told result storage.new medium.new ≡ reported (write_call script.now (world_of state storage.old medium.old) slice.now) }
+pub fn write(w: &mut BufWriter<'_, '_>, slice: &[u8]) -> Result<usize, Failure>
+    ensures lent { Lent w.old w.new }
+    ensures told { tells (said_count result) w.new ≡ reported (write_call w.old.script.now (world w.old) slice.now) }
 {
-    let held = state.held;
-    let own = limits::length_refusal(slice.len());
-    let number = limits::refusal(
-        storage.len(),
-        script.len(),
-        medium.len(),
-        0,
-        held,
-        state.out,
-        state.used,
-        own,
-    );
-    if number != 0 {
-        return Answered {
-            answer: Answer::Refused(number),
-            calls: 0,
-            state,
-        };
-    }
-    if slice.len() < storage.len() - held {
-        bytes::copy(storage, held, slice, slice.len());
-        return Answered {
-            answer: Answer::Ok(slice.len()),
-            calls: 0,
-            state: State {
-                held: held + slice.len(),
-                out: state.out,
-                used: state.used,
-            },
-        };
-    }
-    write_cold(state, storage, script, medium, slice, false)
+    call(w, slice)
 }
 
-pub fn write_all(
-    state: State,
-    storage: &mut [u8],
-    script: &[u32],
-    medium: &mut [u8],
-    slice: &[u8],
-) -> Answered
-    ensures { told result storage.new medium.new ≡ reported (write_all_call script.now (world_of state storage.old medium.old) slice.now) }
+pub fn write_all(w: &mut BufWriter<'_, '_>, slice: &[u8]) -> Result<(), Failure>
+    ensures lent { Lent w.old w.new }
+    ensures told { tells (said_done result) w.new ≡ reported (write_all_call w.old.script.now (world w.old) slice.now) }
 {
-    let held = state.held;
-    let own = limits::length_refusal(slice.len());
-    let number = limits::refusal(
-        storage.len(),
-        script.len(),
-        medium.len(),
-        0,
-        held,
-        state.out,
-        state.used,
-        own,
-    );
-    if number != 0 {
-        return Answered {
-            answer: Answer::Refused(number),
-            calls: 0,
-            state,
-        };
-    }
-    if slice.len() < storage.len() - held {
-        bytes::copy(storage, held, slice, slice.len());
-        return Answered {
-            answer: Answer::Done,
-            calls: 0,
-            state: State {
-                held: held + slice.len(),
-                out: state.out,
-                used: state.used,
-            },
-        };
-    }
-    write_cold(state, storage, script, medium, slice, true)
+    call(w, slice)
 }
 
 // The flush of the buffer, then the device's. What the first refuses or fails at is the answer.
-pub fn flush(state: State, storage: &mut [u8], script: &[u32], medium: &mut [u8]) -> Answered
-    ensures { told result storage.new medium.new ≡ reported (flush_call script.now (world_of state storage.old medium.old)) }
+pub fn flush(w: &mut BufWriter<'_, '_>) -> Result<(), Failure>
+    ensures lent { Lent w.old w.new }
+    ensures told { tells (said_done result) w.new ≡ reported (flush_call w.old.script.now (world w.old)) }
 {
-    let f = flush::flush_buf(state, storage, script, medium);
-    let answer = f.answer;
-    let flushed = f.state;
-    if flush::succeeded(answer) {
-        let e = device::flush(script, flushed.used);
-        let reply = e.reply;
-        return Answered {
-            answer: flush_reply_answer(reply),
-            calls: f.calls + 1,
-            state: State {
-                held: flushed.held,
-                out: flushed.out,
-                used: e.used,
-            },
-        };
-    }
-    f
+    w.flush_buf()?;
+    let e = device::flush(w.script, w.state.used);
+    w.state.used = e.used;
+    w.calls += 1;
+    e.reply?;
+    Ok(())
 }

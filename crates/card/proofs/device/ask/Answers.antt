@@ -1,17 +1,9 @@
--- `card::device::ask` meets its contract: the four ways through it are the four laws of a device call. Assumes nothing.
-use mathlib.Core.Path.{sym, ◌∙◌}
-use native.Mathlib.Omega.{arith}
-use Rattle.card.proofs.Replies.{at_end, at_accept, at_interrupted, at_error}
+-- `card::device::ask` meets its contract. Assumes nothing.
+use Rattle.card.proofs.Replies.{past_end, at_number}
 use Rattle.card.proofs.device.ask.Goals as goal
 
-pub returns-then-script-used : goal.returns-then-script-used
-returns-then-script-used c = at_end _ _ _ c.if-script-used.true
+pub returns-in_default : goal.returns-in_default
+returns-in_default c = past_end _ _ _ c.in_default.ensures.lookup.0
 
-pub returns-in-Accept : goal.returns-in-Accept
-returns-in-Accept c = at_accept _ _ _ _ _ c.least.ensures (sym c.in-Accept.is ∙ c.reply_of-reply.ensures) (omega arith)
-
-pub returns-in-Interrupted : goal.returns-in-Interrupted
-returns-in-Interrupted c = at_interrupted _ _ _ (sym c.in-Interrupted.is ∙ c.reply_of-reply.ensures) (omega arith)
-
-pub returns-in-Error : goal.returns-in-Error
-returns-in-Error c = at_error _ _ _ _ (sym c.in-Error.is ∙ c.reply_of-reply.ensures) (omega arith)
+pub returns : goal.returns
+returns c = at_number _ _ _ _ _ _ c.cut.ensures c.reply_of.ensures (c.in-Some.ensures.lookup.0, c.in-Some.ensures.lookup.1)

@@ -1,16 +1,13 @@
 -- `card::device::reply_of` meets its contract. Assumes nothing.
-use borrow.Author.Tests.{le-leb, lt-leb, eq-eqb, ne_eqb}
-use Rattle.card.specs.Device.{reply_of}
+use native.Mathlib.Omega.{arith}
+use Rattle.card.proofs.Replies.{accepts, pauses, fails}
 use Rattle.card.proofs.device.reply_of.Goals as goal
 
-pub returns-then-n-le65535 : goal.returns-then-n-le65535
-unfolding reply_of
-returns-then-n-le65535 c = simp (le-leb _ _ c.if-n-le65535.true)
+pub returns-in-65536 : goal.returns-in-65536
+returns-in-65536 c = pauses _ (omega arith)
 
-pub returns-then-n-eq65536 : goal.returns-then-n-eq65536
-unfolding reply_of
-returns-then-n-eq65536 c = simp (lt-leb _ _ c.if-n-le65535.false, eq-eqb _ _ c.if-n-eq65536.true)
+pub returns-in-0-to-65535 : goal.returns-in-0-to-65535
+returns-in-0-to-65535 c = accepts _ (omega arith)
 
-pub returns : goal.returns
-unfolding reply_of
-returns c = simp (lt-leb _ _ c.if-n-le65535.false, ne_eqb _ _ c.if-n-eq65536.false)
+pub returns-in_default : goal.returns-in_default
+returns-in_default c = fails _ (omega arith)

@@ -1,5 +1,6 @@
 use mathlib.Core.Path.{◌∙◌}
 use native.Mathlib.Omega.{arith}
+use Rattle.card.proofs.Replies.{because}
 use Rattle.flushing.proofs.Turn.{begins, ends_done, accepted, accepted_less, within, ends_zero, interrupted, interrupted_less, ends_failed}
 use Rattle.flushing.proofs.send.send_all.Goals as goal
 
@@ -8,20 +9,20 @@ loop-sent-init c = begins _ _ _ _ _
 
 pub overflow_add-sent : goal.overflow_add-sent
 overflow_add-sent c =
-    let h = within _ _ _ _ _ _ _ _ _ c.loop-sent.invariant _ _ c.write-e.ensures.0 c.write-e.ensures.1 c.if-source-sent.false _ c.in-Accept.is in
+    let h = within _ _ _ _ _ _ _ _ _ c.loop-sent.invariant _ _ c.write-e.ensures.0 c.write-e.ensures.1 c.if-source-sent.false _ c.in-Ok.is in
     omega (arith, h.0)
 
-pub loop-sent-smaller-in-Accept : goal.loop-sent-smaller-in-Accept
-loop-sent-smaller-in-Accept c = accepted_less _ _ _ _ _ _ _ _ _ c.loop-sent.invariant _ _ c.write-e.ensures.0 c.write-e.ensures.1 c.if-source-sent.false _ c.in-Accept.is
+pub loop-sent-smaller-in-Ok : goal.loop-sent-smaller-in-Ok
+loop-sent-smaller-in-Ok c = accepted_less _ _ _ _ _ _ _ _ _ c.loop-sent.invariant _ _ c.write-e.ensures.0 c.write-e.ensures.1 c.if-source-sent.false _ c.in-Ok.is
 
-pub loop-sent-preserved-in-Accept : goal.loop-sent-preserved-in-Accept
-loop-sent-preserved-in-Accept c = accepted _ _ _ _ _ _ _ _ _ c.loop-sent.invariant _ _ c.write-e.ensures.0 c.write-e.ensures.1 c.if-source-sent.false _ c.in-Accept.is c.if-n-eq0.false
+pub loop-sent-preserved-in-Ok : goal.loop-sent-preserved-in-Ok
+loop-sent-preserved-in-Ok c = accepted _ _ _ _ _ _ _ _ _ c.loop-sent.invariant _ _ c.write-e.ensures.0 c.write-e.ensures.1 c.if-source-sent.false _ c.in-Ok.is c.if-n-eq0.false
 
 pub loop-sent-smaller : goal.loop-sent-smaller
-loop-sent-smaller c = interrupted_less _ _ _ _ _ _ _ _ _ c.loop-sent.invariant _ _ c.write-e.ensures.0 c.write-e.ensures.1 c.if-source-sent.false c.in-Interrupted.is
+loop-sent-smaller c = interrupted_less _ _ _ _ _ _ _ _ _ c.loop-sent.invariant _ _ c.write-e.ensures.0 c.write-e.ensures.1 c.if-source-sent.false (because _ _ _ c.in-Err.is c.in-Interrupted.is)
 
 pub loop-sent-preserved : goal.loop-sent-preserved
-loop-sent-preserved c = interrupted _ _ _ _ _ _ _ _ _ c.loop-sent.invariant _ _ c.write-e.ensures.0 c.write-e.ensures.1 c.if-source-sent.false c.in-Interrupted.is
+loop-sent-preserved c = interrupted _ _ _ _ _ _ _ _ _ c.loop-sent.invariant _ _ c.write-e.ensures.0 c.write-e.ensures.1 c.if-source-sent.false (because _ _ _ c.in-Err.is c.in-Interrupted.is)
 
 pub shape_of-medium-then-source-sent : goal.shape_of-medium-then-source-sent
 shape_of-medium-then-source-sent c = c.loop-sent.invariant.long
@@ -33,10 +34,10 @@ pub shape_of-medium-then-n-eq0 : goal.shape_of-medium-then-n-eq0
 shape_of-medium-then-n-eq0 c = c.write-e.auto.medium ∙ c.loop-sent.invariant.long
 
 pub returns-then-n-eq0 : goal.returns-then-n-eq0
-returns-then-n-eq0 c = ends_zero _ _ _ _ _ _ _ _ _ c.loop-sent.invariant _ _ c.write-e.ensures.0 c.write-e.ensures.1 c.if-source-sent.false _ c.in-Accept.is c.if-n-eq0.true
+returns-then-n-eq0 c = ends_zero _ _ _ _ _ _ _ _ _ c.loop-sent.invariant _ _ c.write-e.ensures.0 c.write-e.ensures.1 c.if-source-sent.false _ c.in-Ok.is c.if-n-eq0.true
 
 pub shape_of-medium-in-Error : goal.shape_of-medium-in-Error
 shape_of-medium-in-Error c = c.write-e.auto.medium ∙ c.loop-sent.invariant.long
 
 pub returns-in-Error : goal.returns-in-Error
-returns-in-Error c = ends_failed _ _ _ _ _ _ _ _ _ c.loop-sent.invariant _ _ c.write-e.ensures.0 c.write-e.ensures.1 c.if-source-sent.false _ c.in-Error.is
+returns-in-Error c = ends_failed _ _ _ _ _ _ _ _ _ c.loop-sent.invariant _ _ c.write-e.ensures.0 c.write-e.ensures.1 c.if-source-sent.false _ (because _ _ _ c.in-Err.is c.in-Error.is)

@@ -1,11 +1,9 @@
 -- `form::replies::read_replies` meets its contract. The loop's invariant is `Filled`: the first replies stand in the script, and the
 -- others are read from here on. Assumes nothing.
-use Prim.Native.Nat.{◌-◌}
+use mathlib.Core.List.{◌++◌}
+use lib.ListN.{drop}
 use Rattle.form.proofs.Filling.{Filled}
 use Rattle.form.proofs.replies.read_replies.Given as goal
 
-abbrev pub invariant-loop-done : goal.invariant-loop-done
-invariant-loop-done l = Filled l.session l.count l.first l.initial.script l.script l.done l.at
-
-abbrev pub decreases-loop-done : goal.decreases-loop-done
-decreases-loop-done l = l.most - l.done
+abbrev pub invariant-loop-place : goal.invariant-loop-place
+invariant-loop-place l = Filled l.session l.count l.first l.fn.script (l.place-items ++ drop l.most l.fn.script) l.place-index l.at

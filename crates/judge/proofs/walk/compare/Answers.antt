@@ -1,51 +1,38 @@
-use mathlib.Core.Path.{sym, ap, ◌∙◌}
-use Prim.Native.Nat.{ℕ, ◌-◌, min}
+use mathlib.Core.Path.{refl, sym, ◌∙◌}
 use native.Mathlib.Omega.{arith}
-use Rattle.judge.proofs.Walks.{bytes_begin, bytes_fit, bytes_again, bytes_differ, bytes_end, bytes_short, bytes_never}
+use Rattle.std.proofs.lemmas.Bool.{false≢true}
+use Rattle.judge.proofs.Walks.{Met, bytes_begin, bytes_fit, bytes_again, bytes_differ, bytes_ends, bytes_never, starts_same}
 use Rattle.judge.proofs.walk.compare.Goals as goal
+use Rattle.judge.proofs.walk.compare.Goals.{After-split_at}
 
-pub loop-left-init : goal.loop-left-init
-loop-left-init c = bytes_begin _ _ _ _ _ _
+met : (c : After-split_at) → Met c.args.trace.now c.args.header.now c.loop.counter c.loop.total c.loop.at c.loop.card.now c.loop.answered c.in-Ok.call c.answered_by-taken.result c.min.result
+met c = record { walked = c.loop.invariant; reads = sym c.read_call.ensures ∙ c.in-Ok.is; taken_is = c.answered_by-taken.ensures; most = c.min.ensures }
 
-pub overflow_sub-long : goal.overflow_sub-long
-overflow_sub-long c = c.loop-left.invariant.within
+pub loop-init : goal.loop-init
+loop-init c = bytes_begin _ _
 
-pub overflow_add-place : goal.overflow_add-place
-overflow_add-place c = omega (arith, c.loop-left.invariant.within, c.requires)
+pub returns-in_default : goal.returns-in_default
+returns-in_default c = bytes_never _ _ _ _ _ _ _ _ _ c.loop.invariant (sym c.read_call.ensures ∙ c.in_default.is) c.loop-test.true
 
-pub same_bytes-requires : goal.same_bytes-requires
-same_bytes-requires c =
-    let f = bytes_fit _ _ _ _ _ _ _ _ _ _ _ _ _ c.loop-left.invariant (sym c.read_call-read.ensures ∙ c.in-Call.is) (c.least-part.ensures ∙ ap (λ (k : ℕ). min k (c.args.long - c.loop-left.matched)) c.answered_by-taken.ensures) c.loop-left-test.true in
-    (f.trace_part, omega (arith, f.card_part, c.requires))
+pub slice_bounds-starts_with-count : goal.slice_bounds-starts_with-count
+slice_bounds-starts_with-count c = (bytes_fit (met (goal.at.slice_bounds-starts_with-count c).After-split_at)).starts
 
-pub returns-then-not-same_bytes : goal.returns-then-not-same_bytes
-returns-then-not-same_bytes c = bytes_differ _ _ _ _ _ _ _ _ _ _ _ _ _ c.loop-left.invariant (sym c.read_call-read.ensures ∙ c.in-Call.is) (c.least-part.ensures ∙ ap (λ (k : ℕ). min k (c.args.long - c.loop-left.matched)) c.answered_by-taken.ensures) c.loop-left-test.true (c.same_bytes.ensures.no_other c.if-not-same_bytes.true)
+pub slice_bounds-starts_with-start : goal.slice_bounds-starts_with-start
+slice_bounds-starts_with-start c = (bytes_fit (met (goal.at.slice_bounds-starts_with-start c).After-split_at)).starts
+
+pub returns-then-not-starts_with : goal.returns-then-not-starts_with
+returns-then-not-starts_with c = bytes_differ (met (goal.at.returns-then-not-starts_with c).After-split_at) c.loop-test.true (λ e. false≢true ((starts_same c.args.trace.now _ _ c.in-Ok.call.start _ _ c.if-not-starts_with.ensures.value c.split_at.ensures.front (omega arith)).1 e))
 
 pub overflow_add-total : goal.overflow_add-total
-overflow_add-total c =
-    let f = bytes_fit _ _ _ _ _ _ _ _ _ _ _ _ _ c.loop-left.invariant (sym c.read_call-read.ensures ∙ c.in-Call.is) (c.least-part.ensures ∙ ap (λ (k : ℕ). min k (c.args.long - c.loop-left.matched)) c.answered_by-taken.ensures) c.loop-left-test.true in
-    omega (arith, f.total_fits)
-
-pub overflow_add-matched : goal.overflow_add-matched
-overflow_add-matched c =
-    let f = bytes_fit _ _ _ _ _ _ _ _ _ _ _ _ _ c.loop-left.invariant (sym c.read_call-read.ensures ∙ c.in-Call.is) (c.least-part.ensures ∙ ap (λ (k : ℕ). min k (c.args.long - c.loop-left.matched)) c.answered_by-taken.ensures) c.loop-left-test.true in
-    omega (arith, f.card_part)
+overflow_add-total c = omega (arith, (bytes_fit (met (goal.at.overflow_add-total c).After-split_at)).total_fits)
 
 pub overflow_add-answered : goal.overflow_add-answered
 overflow_add-answered c =
-    let f = bytes_fit _ _ _ _ _ _ _ _ _ _ _ _ _ c.loop-left.invariant (sym c.read_call-read.ensures ∙ c.in-Call.is) (c.least-part.ensures ∙ ap (λ (k : ℕ). min k (c.args.long - c.loop-left.matched)) c.answered_by-taken.ensures) c.loop-left-test.true in
-    omega (arith, f.answered_fits, c.answered_by-taken.ensures)
+    let f = bytes_fit (met (goal.at.overflow_add-answered c).After-split_at) in
+    omega (arith, f.total_fits, f.answered_fits)
 
-pub loop-left-preserved : goal.loop-left-preserved
-loop-left-preserved c =
-    let g = bytes_again _ _ _ _ _ _ _ _ _ _ _ _ _ c.loop-left.invariant (sym c.read_call-read.ensures ∙ c.in-Call.is) (c.least-part.ensures ∙ ap (λ (k : ℕ). min k (c.args.long - c.loop-left.matched)) c.answered_by-taken.ensures) c.loop-left-test.true (c.same_bytes.ensures.yes_same c.if-not-same_bytes.false) in
-    rw c.answered_by-taken.ensures g
-
-pub returns-in-Fault : goal.returns-in-Fault
-returns-in-Fault c = bytes_never _ _ _ _ _ _ _ _ _ _ _ _ _ c.loop-left.invariant (sym c.read_call-read.ensures ∙ c.in-Fault.is) c.loop-left-test.true
-
-pub returns-then-matched-long : goal.returns-then-matched-long
-returns-then-matched-long c = bytes_end _ _ _ _ _ _ _ _ _ _ _ c.loop-left.invariant c.loop-left-test.false c.if-matched-long.true
+pub loop-preserved : goal.loop-preserved
+loop-preserved c = rw c.split_at.ensures.back (bytes_again (met (goal.at.loop-preserved c).After-split_at) c.loop-test.true ((starts_same c.args.trace.now _ _ c.in-Ok.call.start _ _ c.if-not-starts_with.ensures.value c.split_at.ensures.front (omega arith)).0 refl))
 
 pub returns : goal.returns
-returns c = bytes_short _ _ _ _ _ _ _ _ _ _ _ c.loop-left.invariant c.loop-left-test.false c.if-matched-long.false
+returns c = bytes_ends _ _ _ _ _ _ _ c.loop.invariant c.loop-test.false _ _ c.is_empty.ensures c.then_some.ensures

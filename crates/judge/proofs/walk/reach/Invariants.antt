@@ -2,8 +2,5 @@
 use Rattle.judge.proofs.Walks.{Inv}
 use Rattle.judge.proofs.walk.reach.Given as goal
 
-abbrev pub invariant-loop-left : goal.invariant-loop-left
-invariant-loop-left l = Inv l.trace l.capacity l.count l.first l.left l.total l.at l.set
-
-abbrev pub decreases-loop-left : goal.decreases-loop-left
-decreases-loop-left l = l.left
+abbrev pub invariant-loop : goal.invariant-loop
+invariant-loop l = Inv l.trace l.header l.counter l.total l.at l.counts.capacity l.counts.flags

@@ -1,15 +1,12 @@
-use native.Mathlib.Omega.{arith}
-use Rattle.line.proofs.Newlines.{search_hit, search_miss, search_ends}
+-- `line::newline::lines_length` meets its contract. Assumes nothing.
+use borrow.Author.Tests.{eq-eqb, eqb-true}
+use Rattle.line.proofs.Newlines.{found, missed}
 use Rattle.line.proofs.newline.lines_length.Goals as goal
 
-pub loop-i-init : goal.loop-i-init
-loop-i-init c = c.last_block-i.ensures
+pub returns-in-Some : goal.returns-in-Some
+returns-in-Some c =
+    let last = c.in-Some.ensures in
+    found _ _ last.0.high (eqb-true _ _ last.1) (λ k a b e. last.0.after k a b (eq-eqb _ _ e))
 
-pub returns-then-s-before-eq10 : goal.returns-then-s-before-eq10
-returns-then-s-before-eq10 c = search_hit _ _ _ c.loop-i.invariant.1 c.if-s-before-eq10.true (omega arith) c.loop-i.invariant.0
-
-pub loop-i-preserved : goal.loop-i-preserved
-loop-i-preserved c = (omega arith, search_miss _ _ _ c.loop-i.invariant.1 c.if-s-before-eq10.false (omega arith) c.loop-i.invariant.0)
-
-pub returns : goal.returns
-returns c = search_ends _ c.loop-i.i c.loop-i.invariant.1 (omega arith)
+pub returns-in-None : goal.returns-in-None
+returns-in-None c = missed _ (λ k a b e. c.in-None.ensures k a b (eq-eqb _ _ e))

@@ -2,5 +2,5 @@
 use Rattle.session.proofs.ReadSteps.{read_is}
 use Rattle.session.proofs.reading.read_into.Goals as goal
 
-pub returns : goal.returns
-returns c = read_is c.read-a.result _ _ _ _ _ _ _ _ c.read-a.ensures (c.line.ensures _)
+pub returns-clause-steps : goal.returns-clause-steps
+returns-clause-steps c = read_is _ _ _ _ c.counted-answer.ensures c.read.new.self _ _ c.read.ensures.call c.line.ensures

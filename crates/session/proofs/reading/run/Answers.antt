@@ -1,33 +1,19 @@
-use mathlib.Core.Path.{refl, sym, ap, ◌∙◌}
-use Rattle.reader.specs.declared.State.{State}
-use Rattle.reader.specs.World.{world}
-use Rattle.session.proofs.Walks.{begins, again, ends, never}
-use Rattle.session.proofs.ReadSteps.{ends_text, runs}
+use mathlib.Core.Path.{sym, ◌∙◌}
+use Rattle.session.proofs.Walks.{again, ends, never}
+use Rattle.session.proofs.ReadSteps.{lent_on, same_lent, ends_text, runs}
 use Rattle.session.proofs.reading.run.Goals as goal
 
-pub loop-left-init : goal.loop-left-init
-loop-left-init c = (begins _ _ _ _ _ _ _ _ _ _ (ap (λ (s : State). world c.args.storage.now s) c.new-state.ensures), refl)
+pub step-requires : goal.step-requires
+step-requires c = runs _ _ c.in-Ok.call _ (sym c.read_call.ensures ∙ c.in-Ok.is)
 
-pub step-s-requires : goal.step-s-requires
-step-s-requires c = runs _ _ c.in-Found.call _ (sym c.read_call-read.ensures ∙ c.in-Found.is)
+pub loop-preserved : goal.loop-preserved
+loop-preserved c = record {
+  lent = lent_on _ _ _ c.loop.invariant.lent c.step.ensures.lent;
+  walked = again _ _ _ _ _ _ _ _ _ _ _ _ c.loop.invariant.walked _ _ _ _ (sym c.read_call.ensures ∙ c.in-Ok.is) (same_lent _ _ c.loop.invariant.lent _ _ _ _ _ c.step.ensures.steps) c.loop-test.true;
+}
 
-pub loop-left-preserved : goal.loop-left-preserved
-loop-left-preserved c = (again _ _ _ _ _ _ _ _ _ _ _ _ _ _ c.loop-left.invariant.0 _ _ _ _ _ (sym c.read_call-read.ensures ∙ c.in-Found.is) c.step-s.ensures c.loop-left-test.true c.step-s.auto.output, c.step-s.auto.storage ∙ c.loop-left.invariant.1)
-
-pub shape_of-storage-in-Fault : goal.shape_of-storage-in-Fault
-shape_of-storage-in-Fault c = c.loop-left.invariant.1
-
-pub shape_of-output-in-Fault : goal.shape_of-output-in-Fault
-shape_of-output-in-Fault c = c.loop-left.invariant.0.long
-
-pub returns-in-Fault : goal.returns-in-Fault
-returns-in-Fault c = never _ _ _ _ _ _ _ _ _ _ _ _ _ _ c.loop-left.invariant.0 _ _ _ (sym c.read_call-read.ensures ∙ c.in-Fault.is) c.loop-left-test.true
-
-pub shape_of-storage : goal.shape_of-storage
-shape_of-storage c = c.loop-left.invariant.1
-
-pub shape_of-output : goal.shape_of-output
-shape_of-output c = c.reader_end.auto.output ∙ c.loop-left.invariant.0.long
+pub returns-in_default : goal.returns-in_default
+returns-in_default c = never _ _ _ _ _ _ _ _ _ _ _ _ c.loop.invariant.walked _ _ (sym c.read_call.ensures ∙ c.in_default.is) c.loop-test.true
 
 pub returns : goal.returns
-returns c = ends _ _ _ _ _ _ _ _ _ _ _ _ _ _ c.loop-left.invariant.0 _ _ _ c.reader_end.ensures (ends_text _ _ _ c.buffered.ensures) c.loop-left-test.false
+returns c = ends _ _ _ _ _ _ _ _ _ _ _ _ c.loop.invariant.walked _ _ c.reader_end.ensures (ends_text c.loop.r _ c.buffered.ensures) c.loop-test.false

@@ -9,4 +9,4 @@ pub slice_bounds-result-end : goal.slice_bounds-result-end
 slice_bounds-result-end c = sym (length-take-le _ _ (omega arith))
 
 pub returns : goal.returns
-returns c = take_least _ _ _ c.least-held.ensures
+returns c = take_least _ _ _ c.min.ensures

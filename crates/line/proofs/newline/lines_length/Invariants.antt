@@ -1,9 +1,0 @@
--- `line::newline::lines_length` meets its contract. The loop's invariant: the last newline, if any, is before place i. Assumes nothing.
-use Rattle.line.proofs.Newlines.{Searched}
-use Rattle.line.proofs.newline.lines_length.Given as goal
-
-abbrev pub invariant-loop-i : goal.invariant-loop-i
-invariant-loop-i l = Searched l.s l.i
-
-abbrev pub decreases-loop-i : goal.decreases-loop-i
-decreases-loop-i l = l.i

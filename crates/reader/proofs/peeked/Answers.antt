@@ -1,8 +1,0 @@
--- `reader::peeked` meets its contract. Assumes nothing.
-use Rattle.reader.proofs.Buffers.{part_shown}
-use mathlib.Core.Path.{ap, ◌∙◌}
-use Prim.Native.Nat.{ℕ, min}
-use Rattle.reader.proofs.peeked.Goals as goal
-
-pub returns : goal.returns
-returns c = part_shown c.args.storage.now c.args.state _ _ _ _ c.least-from.ensures (c.least-held.ensures ∙ ap (λ (k : ℕ). min c.args.n k) c.left.ensures) c.least.ensures

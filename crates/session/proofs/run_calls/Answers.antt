@@ -1,9 +1,0 @@
--- `session::run_calls` meets its contract. Assumes nothing.
-use Rattle.session.proofs.Shows.{shown_read, shown_write}
-use Rattle.session.proofs.run_calls.Goals as goal
-
-pub returns-then-header-eq2 : goal.returns-then-header-eq2
-returns-then-header-eq2 c = shown_read _ _ _ c.requires _ _ _ _ _ c.session-at.ensures c.if-header-eq2.true c.read_calls.ensures
-
-pub returns : goal.returns
-returns c = shown_write _ _ _ c.requires _ _ _ _ _ c.session-at.ensures c.if-header-eq2.false c.write_calls.ensures

@@ -1,9 +1,0 @@
--- `session::writing::write_all` meets its contract. Assumes nothing.
-use Rattle.session.proofs.WriteSteps.{line_write_all_is, write_all_is}
-use Rattle.session.proofs.writing.write_all.Goals as goal
-
-pub returns-then-kind-eq1 : goal.returns-then-kind-eq1
-returns-then-kind-eq1 c = line_write_all_is _ _ _ _ _ c.write_all.ensures c.if-kind-eq1.true
-
-pub returns : goal.returns
-returns c = write_all_is _ _ _ _ _ c.write_all-2.ensures c.if-kind-eq1.false

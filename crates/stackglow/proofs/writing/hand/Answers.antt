@@ -1,6 +1,0 @@
--- `stackglow::writing::hand` meets its contract. Assumes nothing.
-use Rattle.stackglow.proofs.Handing.{writing}
-use Rattle.stackglow.proofs.writing.hand.Goals as goal
-
-pub returns : goal.returns
-returns c storage medium = writing c.args.a _ _ storage medium c.number.ensures c.value.ensures

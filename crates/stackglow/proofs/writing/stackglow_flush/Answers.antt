@@ -1,8 +1,0 @@
--- `stackglow::writing::stackglow_flush` meets its contract. Assumes nothing.
-use mathlib.Core.Path.{ap, ◌∙◌}
-use Rattle.flushing.specs.World.{Told}
-use Rattle.stackglow.specs.Writing.{handed}
-use Rattle.stackglow.proofs.writing.stackglow_flush.Goals as goal
-
-pub returns : goal.returns
-returns c = c.hand.ensures _ _ ∙ ap (λ (t : Told). handed t) c.flush-a.ensures

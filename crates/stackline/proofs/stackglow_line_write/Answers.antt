@@ -1,8 +1,0 @@
--- `stackline::stackglow_line_write` meets its contract. Assumes nothing.
-use mathlib.Core.Path.{ap, ◌∙◌}
-use Rattle.flushing.specs.World.{Told}
-use Rattle.stackglow.specs.Writing.{handed}
-use Rattle.stackline.proofs.stackglow_line_write.Goals as goal
-
-pub returns : goal.returns
-returns c = c.hand.ensures _ _ ∙ ap (λ (t : Told). handed t) c.write-a.ensures
