@@ -1,6 +1,8 @@
 // A request, read from its front on. Past its end there is nothing, and numbers there are 0.
 ghost use Rattle.std.specs.Prelude.{◌<◌, ◌^◌};
 
+use card::bytes;
+
 #[derive(Drop)]
 pub(crate) struct Request<'a> {
     pub(crate) rest: &'a [u8],
@@ -17,9 +19,7 @@ impl<'a> Request<'a> {
     // The next N bytes, zeros past the end.
     fn word<const N: usize>(&mut self) -> [u8; N] {
         let mut word = [0; N];
-        let taken = self.take(N);
-        let n = taken.len().min(N);
-        word[..n].copy_from_slice(&taken[..n]);
+        bytes::copy(&mut word, 0, self.take(N), N);
         word
     }
 
@@ -49,9 +49,7 @@ impl<'a> Request<'a> {
     // Bytes after their count, at the front of lent ones: so many of these as the count says.
     pub(crate) fn load<'b>(&mut self, room: &'b mut [u8]) -> &'b mut [u8] {
         let count = self.number();
-        let bytes = self.take(count);
-        let n = bytes.len().min(room.len());
-        room[..n].copy_from_slice(&bytes[..n]);
+        bytes::copy(room, 0, self.take(count), count);
         let end = count.min(room.len());
         &mut room[..end]
     }

@@ -16,7 +16,7 @@ ghost use Rattle.reader.specs.Reader.{handed, buffered, refusal, peek_refusal, s
 ghost use Rattle.reader.specs.Buffer as Buffer;
 
 use card::limits::{Refusal, check_length};
-use card::{Failure, Reply, device};
+use card::{Failure, Reply, bytes, device};
 
 // What a reader knows between calls: its place in the storage and how much of that is filled,
 // the bytes taken of the stock, and the replies used of the script.
@@ -149,7 +149,7 @@ impl BufReader<'_> {
         ensures { destination.new ≡ put destination.old 0 (drop self.now.state.pos self.now.storage.now) n }
     {
         let pos = self.state.pos;
-        destination[..n].copy_from_slice(&self.storage[pos..pos + n]);
+        bytes::copy(destination, 0, &self.storage[pos..], n);
     }
 
     // Through the buffer. A fill that failed leaves nothing to copy.
