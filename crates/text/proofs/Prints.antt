@@ -1,13 +1,14 @@
 -- The laws of `printed` and `written`: what a function that prints the parts of a text one after the other goes by.
 -- Assumes nothing.
 use mathlib.Core.Path.{◌≡◌, refl, sym, ap, ◌∙◌}
-use mathlib.Core.List.{List, [], ◌++◌}
-use Prim.Native.Nat.{ℕ, ◌+◌, ◌-◌, ◌≤◌, min}
+use mathlib.Core.List.{List, [], ◌∷◌, ◌++◌}
+use Prim.Native.Nat.{ℕ, suc, ◌+◌, ◌-◌, ◌≤◌, ◌<◌, min}
 use native.Mathlib.Nat.{add-zero, add_assoc}
+use native.Mathlib.Numerals.{add-one}
 use native.Mathlib.Decide.{dec_le}
 use native.Mathlib.Omega.{arith}
-use lib.ListN.{length, take, drop, length-append}
-use lib.Seq.{take-append-le, drop-append_seam}
+use lib.ListN.{length, take, drop, set, length-append}
+use lib.Seq.{take-append-le, drop-append_seam, set_split, append_snoc}
 use Rattle.laws.specs.Put.{put}
 use Rattle.laws.proofs.Puts.{put_none, put_zero, put-put, length-put, opened}
 use Rattle.text.specs.declared.Page.{Page}
@@ -22,6 +23,22 @@ prints output o at r n text e p q = rw (p, e, q)
 pub writes : (page : Page) (o : List ℕ) (n : ℕ) (text : List ℕ) → o ≡ put page.bytes.now page.at text n → n ≡ fitting page.bytes.now page.at text → record { bytes = record page.bytes { now = o }; at = page.at + n } ≡ written page text
 unfolding written
 writes page o n text e q = ap (λ (p : Printed). record { bytes = record page.bytes { now = p.output }; at = p.at }) (prints page.bytes.now o page.at (page.at + n) n text e refl q)
+
+-- a store is a paste of one byte
+set-put : (d : List ℕ) (at value : ℕ) → at < length d → set d at value ≡ put d at (value ∷ []) 1
+set-put d at value h = set_split d at value h ∙ sym (append_snoc (take at d) value (drop (suc at) d)) ∙ rw (← add-one at) (sym (opened d at (value ∷ []) 1))
+
+-- one byte, where there is room and where there is none
+pub byte_stored : (output : List ℕ) (at value : ℕ) → at < length output → record { output = set output at value; at = at + 1 } ≡ printed output at (value ∷ [])
+byte_stored output at value h = prints output _ at _ 1 (value ∷ []) (set-put output at value h) refl (omega arith)
+
+pub byte_cut : (output : List ℕ) (at value : ℕ) → length output ≤ at → record { output = output; at = at } ≡ printed output at (value ∷ [])
+byte_cut output at value h = prints output output at at 0 (value ∷ []) (put_none output at (value ∷ [])) (sym (add-zero at)) (omega arith)
+
+-- what is printed on a page's bytes from its place on is written on it
+pub pages : (page : Page) (o : List ℕ) (a : ℕ) (text : List ℕ) → record { output = o; at = a } ≡ printed page.bytes.now page.at text → record { bytes = record page.bytes { now = o }; at = a } ≡ written page text
+unfolding written
+pages page o a text e = ap (λ (p : Printed). record { bytes = record page.bytes { now = p.output }; at = p.at }) e
 
 -- nothing printed
 pub nothing : (page : Page) → page ≡ written page []

@@ -2,7 +2,7 @@
 // `write!` promises its text only where it answers Ok, and of no writer that it does; a page promises
 // its text always.
 ghost use Rattle.std.specs.Prelude.{◌≡◌, [], ◌∷◌, ◌++◌, ◌/◌, ◌%◌, ◌<◌};
-ghost use Rattle.text.specs.Printed.{written};
+ghost use Rattle.text.specs.Printed.{printed, written};
 ghost use Rattle.text.specs.Words.{name_of};
 ghost use Rattle.text.specs.Numbers.{digit, decimal_of, hex_digits, hex_of};
 ghost use Rattle.card.specs.Answers.{failed};
@@ -20,6 +20,33 @@ fn digit_byte(d: u8) -> u8
         return b'0' + d;
     }
     b'a' + (d - 10)
+}
+
+// A digit at a place, where the bytes have that place; the place after it. It is stored and not copied,
+// since nearly all of a long text is digits.
+#[tactic(auto, using(crate::proofs::Prints::byte_stored, crate::proofs::Prints::byte_cut))]
+fn store_digit(output: &mut [u8], at: usize, d: u8) -> usize
+    requires { d < 16 }
+    ensures { record { output = output.new; at = result } ≡ printed output.old at (digit d ∷ []) }
+{
+    if output.len() <= at {
+        return at;
+    }
+    output[at] = digit_byte(d);
+    at + 1
+}
+
+// Two digits a byte, from a place on; the place after them. The place is a number here, so that it need
+// not go through the page for each digit.
+fn store_hex(output: &mut [u8], at: usize, shown: &[u8]) -> usize
+    ensures { record { output = output.new; at = result } ≡ printed output.old at (hex_digits shown.now) }
+{
+    let mut next = at;
+    for byte in shown {
+        next = store_digit(output, next, byte / 16);
+        next = store_digit(output, next, byte % 16);
+    }
+    next
 }
 
 impl Name {
@@ -57,7 +84,7 @@ impl Page<'_> {
         requires { d < 16 }
         ensures { self.new ≡ written self.old (digit d ∷ []) }
     {
-        self.say(&[digit_byte(d)]);
+        self.at = store_digit(self.bytes, self.at, d);
     }
 
     // A number in decimal. It calls itself on the tenth part: so it needs no buffer, as the crate
@@ -73,14 +100,10 @@ impl Page<'_> {
     }
 
     // Two digits a byte.
-    #[tactic(auto, using(crate::proofs::Hexes::again, crate::proofs::Hexes::finish))]
     fn hex_digits(&mut self, shown: &[u8])
         ensures { self.new ≡ written self.old (hex_digits shown.now) }
     {
-        for byte in shown {
-            self.digit(byte / 16);
-            self.digit(byte % 16);
-        }
+        self.at = store_hex(self.bytes, self.at, shown);
     }
 
     // Bytes in hex.
