@@ -101,5 +101,8 @@ number_one refusal = one (refusal_number refusal)
 pub check_one : (capacity script device pos filled moved used : ℕ) (r q : Result Unit Refusal) → refusal_by r ≡ refusal_of capacity script device pos filled moved used 0 → refusal_by q ≡ refusal_of capacity script device pos filled moved used 0 → r ≡ q
 check_one capacity script device pos filled moved used = refusal_same (refusal_of capacity script device pos filled moved used 0)
 
-pub length_refusal_one : (n : ℕ) (r q : Result Unit Refusal) → refusal_by r ≡ length_refusal n → refusal_by q ≡ length_refusal n → r ≡ q
-length_refusal_one n = refusal_same (length_refusal n)
+pub check_length_one : (n : ℕ) (r q : Result Unit Refusal) → refusal_by r ≡ length_refusal n → refusal_by q ≡ length_refusal n → r ≡ q
+check_length_one n = refusal_same (length_refusal n)
+
+pub length_refusal_one : (n r q : ℕ) → r ≡ length_refusal n → q ≡ length_refusal n → r ≡ q
+length_refusal_one n = one (length_refusal n)

@@ -84,3 +84,13 @@ pub fn check_length(n: usize) -> Result<(), Refusal>
     }
     Ok(())
 }
+
+// The number of that refusal, 0 for none. It cannot fail, and stands because it is public.
+pub fn length_refusal(n: usize) -> u32
+    ensures { result ≡ length_refusal n }
+{
+    match check_length(n) {
+        Ok(()) => 0,
+        Err(long) => long.number(),
+    }
+}
