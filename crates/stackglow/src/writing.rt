@@ -2,9 +2,9 @@
 // and `calls` only go out, and what they had does not matter. Each number is a parameter, and the
 // functions are alike, because C calls them so; with a closure for the call that each makes they
 // would be no plainer.
-ghost use Rattle.std.specs.Prelude.{◌≡◌};
+ghost use Rattle.std.specs.Prelude.{◌≡◌, List, ℕ};
 ghost use Rattle.card.specs.Answers.{said};
-ghost use Rattle.flushing.specs.World.{world_of, reported};
+ghost use Rattle.flushing.specs.World.{world_of, told, reported};
 ghost use Rattle.flushing.specs.Flush.{flush_buf_call};
 ghost use Rattle.writer.specs.Writer.{write_call, write_all_call, flush_call};
 ghost use Rattle.stackglow.specs.Numbers.{number_of, value_of};
@@ -43,6 +43,7 @@ impl Places<'_> {
         ensures value { self.new.value.now ≡ value_of (said answer) }
         ensures calls { self.new.calls.now ≡ calls }
         ensures state { state_of self.new.held.now self.new.out.now self.new.used.now ≡ state }
+        ensures handed { (storage medium : List ℕ) → record { number = result; value = self.new.value.now; calls = self.new.calls.now; held = self.new.held.now; out = self.new.out.now; used = self.new.used.now; storage = storage; medium = medium } ≡ handed (told (record { answer = said answer; calls = calls; state = state }) storage medium) }
     {
         *self.held = state.held;
         *self.out = state.out;
