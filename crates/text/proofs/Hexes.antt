@@ -3,7 +3,6 @@
 use mathlib.Core.Path.{◌≡◌, refl, sym, ap, ◌∙◌}
 use mathlib.Core.List.{List, [], ◌∷◌, ◌++◌}
 use Prim.Native.Nat.{ℕ, ◌+◌, ◌/◌, ◌%◌, ◌≤◌, ◌<◌}
-use native.Mathlib.Nat.{add-zero}
 use native.Mathlib.Numerals.{add-one}
 use native.Mathlib.Omega.{arith}
 use lib.ListN.{length, drop, get_or, drop_of_length-le}
@@ -11,11 +10,10 @@ use lib.Seq.{drop-cons}
 use lib.Dec.{eqb}
 use mathlib.Core.Bool.{true, false}
 use borrow.Author.Tests.{eqb-true}
-use Rattle.laws.proofs.Puts.{put_none}
 use Rattle.text.specs.Printed.{Printed, printed}
 use Rattle.text.specs.Words.{ascii}
 use Rattle.text.specs.Numbers.{digit, hex_digits, hex_of}
-use Rattle.text.proofs.Prints.{prints, printed_then}
+use Rattle.text.proofs.Prints.{nothing, printed_then}
 
 -- At the head of a turn: what is left to print makes the whole
 abbrev pub Rest : Printed → List ℕ → Printed → ℕ → Type 0
@@ -41,7 +39,7 @@ again first shown p q r i e f g h =
 pub finish : (first : Printed) (shown : List ℕ) (p : Printed) (i : ℕ) → Rest first shown p i → length shown ≤ i → p ≡ printed first.output first.at (hex_digits shown)
 unfolding hex_digits
 finish first shown p i e h =
-    prints p.output p.output p.at p.at 0 [] (put_none p.output p.at []) (sym (add-zero p.at)) (omega arith)
+    nothing p.output p.at
     ∙ ap (λ (x : List ℕ). printed p.output p.at (hex_digits x)) (sym (drop_of_length-le shown h))
     ∙ e
 

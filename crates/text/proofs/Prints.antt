@@ -41,8 +41,8 @@ unfolding written
 pages page o a text e = ap (λ (p : Printed). record { bytes = record page.bytes { now = p.output }; at = p.at }) e
 
 -- nothing printed
-pub nothing : (page : Page) → page ≡ written page []
-nothing page = ap (λ (n : ℕ). record { bytes = page.bytes; at = n }) (sym (add-zero page.at)) ∙ writes page page.bytes.now 0 [] (put_none page.bytes.now page.at []) (omega arith)
+pub nothing : (output : List ℕ) (at : ℕ) → record { output = output; at = at } ≡ printed output at []
+nothing output at = prints output output at at 0 [] (put_none output at []) (sym (add-zero at)) (omega arith)
 
 -- the count takes no place that the output lacks
 fits : (output : List ℕ) (at : ℕ) (text : List ℕ) → at ≤ length output → at + fitting output at text ≤ length output
