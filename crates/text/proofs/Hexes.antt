@@ -13,7 +13,7 @@ use borrow.Author.Tests.{eqb-true}
 use Rattle.text.specs.Printed.{Printed, printed}
 use Rattle.text.specs.Words.{ascii}
 use Rattle.text.specs.Numbers.{digit, hex_digits, hex_of}
-use Rattle.text.proofs.Prints.{nothing, printed_then}
+use Rattle.text.proofs.Prints.{none_printed, printed_then}
 
 -- At the head of a turn: what is left to print makes the whole
 abbrev pub Rest : Printed → List ℕ → Printed → ℕ → Type 0
@@ -39,7 +39,7 @@ again first shown p q r i e f g h =
 pub finish : (first : Printed) (shown : List ℕ) (p : Printed) (i : ℕ) → Rest first shown p i → length shown ≤ i → p ≡ printed first.output first.at (hex_digits shown)
 unfolding hex_digits
 finish first shown p i e h =
-    nothing p.output p.at
+    none_printed p.output p.at
     ∙ ap (λ (x : List ℕ). printed p.output p.at (hex_digits x)) (sym (drop_of_length-le shown h))
     ∙ e
 

@@ -40,9 +40,12 @@ pub pages : (page : Page) (o : List ℕ) (a : ℕ) (text : List ℕ) → record 
 unfolding written
 pages page o a text e = ap (λ (p : Printed). record { bytes = record page.bytes { now = p.output }; at = p.at }) e
 
--- nothing printed
-pub nothing : (output : List ℕ) (at : ℕ) → record { output = output; at = at } ≡ printed output at []
-nothing output at = prints output output at at 0 [] (put_none output at []) (sym (add-zero at)) (omega arith)
+-- nothing printed, and nothing written on a page
+pub none_printed : (output : List ℕ) (at : ℕ) → record { output = output; at = at } ≡ printed output at []
+none_printed output at = prints output output at at 0 [] (put_none output at []) (sym (add-zero at)) (omega arith)
+
+pub nothing : (page : Page) → page ≡ written page []
+nothing page = pages page page.bytes.now page.at [] (none_printed page.bytes.now page.at)
 
 -- the count takes no place that the output lacks
 fits : (output : List ℕ) (at : ℕ) (text : List ℕ) → at ≤ length output → at + fitting output at text ≤ length output
